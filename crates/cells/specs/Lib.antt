@@ -1,0 +1,4 @@
+pub mod Codes
+pub mod Kinds
+pub mod Printed
+pub mod Laws

@@ -1,0 +1,56 @@
+use mathlib.Core.Path.{_≡_, refl, sym, ap, _∙_}
+use mathlib.Core.Bool.{true, _&&_}
+use mathlib.Core.Logic.{⊎-elim}
+use Prim.Native.Nat.{ℕ, _+_, _-_, _*_, _^_, _<_, _≤_}
+use native.Mathlib.Nat.{pow-suc, pow-le-pow-right}
+use native.Mathlib.Numerals.{add-one}
+use native.Mathlib.Omega.{arith}
+use lib.ListN.{length, getD, take, drop}
+use Rattle.std.specs.shelf.Text.{allDigits}
+use Rattle.std.proofs.shelf.Lists.{take-all, at-drop-all}
+use Rattle.std.proofs.shelf.Sums.{folded-more}
+use Rattle.lines.specs.Written.{value}
+use Rattle.lines.proofs.Texts.{digits-step, digit-in, not-digits}
+use Rattle.lines.proofs.cell.digits.Needs as need
+
+-- at most i digits
+room : (i k n : ℕ) → i ≤ k → n < 10 ^ i → n < 10 ^ k
+room i k n h l = let m : 10 ^ i ≤ 10 ^ k = pow-le-pow-right (omega arith) h in omega arith
+
+pub loop-b-holds : need.loop-b-holds
+loop-b-holds c = (refl, omega arith, refl)
+
+pub mul-n : need.mul-n
+mul-n c = omega (arith, room (c .loop-b .b-index) 12 (c .loop-b .n) (omega arith) (c .loop-b .inv .1))
+
+pub add-n : need.add-n
+add-n c = omega (arith, digit-in (getD (c .args .text .now) (c .loop-b .b-index) 0) (sym (c .if-not-is-ascii-digit .ensures tt .value)), room (c .loop-b .b-index) 12 (c .loop-b .n) (omega arith) (c .loop-b .inv .1))
+
+pub returns-then-not-is-ascii-digit : need.returns-then-not-is-ascii-digit
+returns-then-not-is-ascii-digit c =
+    not-digits _ (c .loop-b .b-index) (c .loop-b-test .taken) (sym (c .if-not-is-ascii-digit .ensures tt .value)) (c .loop-b .inv .2)
+
+pub loop-b-again : need.loop-b-again
+loop-b-again c =
+    let t = c .args .text .now in
+    let i = c .loop-b .b-index in
+    let d = c .if-not-is-ascii-digit .ensures tt .value in
+    let r = digit-in (getD t i 0) (sym d) in (
+      ap (λ x. x * 10 + (getD t i 0 - 48)) (c .loop-b .inv .0) ∙ sym (folded-more (λ n d. n * 10 + (d - 48)) 0 t i 0 (c .loop-b-test .taken)),
+      omega (arith, pow-suc 10 i, ap (λ x. 10 ^ x) (add-one i)),
+      ap (λ x. x && allDigits (drop (i + 1) t)) d ∙ sym (digits-step t i (c .loop-b-test .taken)) ∙ c .loop-b .inv .2,
+    )
+
+pub returns : need.returns
+returns c =
+    let t = c .args .text .now in
+    let i = c .loop-b .b-index in (
+      record {
+        some = c .if-text-lt1 .left;
+        few = c .if-text-gt12 .left;
+        digits = sym (c .loop-b .inv .2) ∙ at-drop-all allDigits t i (c .loop-b-test .left);
+        lean = λ e. ⊎-elim (λ w. omega arith) (λ w. absurd (w e)) (c .else-text-eq48 .either);
+      },
+      ap value (sym (take-all i t (c .loop-b-test .left))) ∙ sym (c .loop-b .inv .0),
+      room i 12 (c .loop-b .n) (omega arith) (c .loop-b .inv .1),
+    )

@@ -1,0 +1,17 @@
+-- What a first character begins. Assumes nothing.
+use mathlib.Core.Path.{_≡_}
+use mathlib.Core.Bool.{Bool, true, false, _||_}
+use Prim.Native.Nat.{ℕ}
+use lib.Dec.{eqb}
+use Rattle.std.specs.Text.{asciiLetter, asciiDigit}
+use Rattle.lines.specs.declared.cell.First.{First}
+use Rattle.lines.specs.declared.cell.First.the-variants.{Letter, Figure, Other}
+
+-- a digit or a minus (45)
+abbrev pub isFigure : ℕ → Bool
+isFigure b = asciiDigit b || eqb b 45
+
+abbrev pub Begins : First → ℕ → Type 0
+Begins Letter b = asciiLetter b ≡ true
+Begins Figure b = isFigure b ≡ true
+Begins Other b = (asciiLetter b ≡ false) × (isFigure b ≡ false)

@@ -1,0 +1,4 @@
+pub mod Firsts
+pub mod Written
+pub mod Rows
+pub mod Printed

@@ -1,0 +1,25 @@
+-- Rows in memory, and what is refused.
+use mathlib.Core.Bool.{Bool, _&&_}
+use mathlib.Core.List.{List, [], _∷_}
+use Prim.Native.Nat.{ℕ, zero, suc, _*_, _%_}
+use lib.Dec.{eqb, leb}
+use lib.ListN.{take, drop}
+use Rattle.memory.specs.declared.rows.RowsRefusal.{RowsRefusal}
+use Rattle.memory.specs.declared.rows.RowsRefusal.the-variants.{NotWholeRows}
+
+-- row i of memory with c cells to a row: the cells that are there
+abbrev pub rowAt : {C : Type 0} → ℕ → List C → ℕ → List C
+rowAt c cells i = take c (drop (i * c) cells)
+
+-- the first n rows of memory with c cells to a row
+abbrev pub rowsFrom : {C : Type 0} → ℕ → ℕ → List C → List (List C)
+rowsFrom zero c cells = []
+rowsFrom (suc n) c cells = take c cells ∷ rowsFrom n c (drop c cells)
+
+-- 1 to 16 columns, and the memory holds whole rows
+abbrev pub areRows : ℕ → ℕ → Bool
+areRows columns cells = (leb 1 columns && leb columns 16) && eqb (cells % columns) 0
+
+-- refusals by number
+abbrev pub numberOf : RowsRefusal → ℕ
+numberOf NotWholeRows = 16
