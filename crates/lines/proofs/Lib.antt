@@ -1,5 +1,5 @@
-pub mod Splits
 pub mod Texts
+pub mod Splits
 pub mod Once
 pub mod Decided
 pub mod Printing

@@ -1,16 +1,14 @@
--- A line has one meaning, and a reader one answer. Assumes nothing.
+-- A text has one meaning, and a reader one answer.
 use mathlib.Core.Path.{_≡_, refl, sym, ap, subst, _∙_}
-use mathlib.Core.Bool.{Bool, true, false}
+use mathlib.Core.Bool.{true}
 use mathlib.Core.List.{List, [], _∷_, _++_}
-use Prim.Native.Nat.{ℕ, suc, _+_, _<_, _≤_}
+use Prim.Native.Nat.{ℕ, suc, _+_}
 use native.Mathlib.Omega.{arith}
 use lib.IntN.{ℤ, pos, negsuc}
 use lib.ListN.{length, getD, take, drop}
-use Rattle.std.specs.Text.{asciiLetter}
 use Rattle.std.specs.declared.result.Result.{Result}
 use Rattle.std.specs.declared.result.Result.the-variants.{Ok, Err}
 use Rattle.std.proofs.shelf.Lists.{take-at}
-use Rattle.std.proofs.shelf.Tests.{both-ways}
 use Rattle.cells.specs.Codes.{letters, isCode}
 use Rattle.cells.specs.declared.full.Full.{Full}
 use Rattle.cells.specs.declared.full.Full.the-variants.{Missing, Number, Code, YesNo}
@@ -20,8 +18,8 @@ use Rattle.lines.specs.declared.reader.Answer.{Answer}
 use Rattle.lines.specs.declared.reader.Answer.the-variants.{Row, End}
 use Rattle.lines.specs.declared.reader.LineRefusal.{LineRefusal}
 use Rattle.lines.specs.declared.reader.LineRefusal.the-variants.{Miscounted, Malformed}
-use Rattle.lines.specs.Written.{Numeral, Figures, Writes, Means, value, commas, before, lineAt}
-use Rattle.lines.specs.Rows.{Read, One-meaning, One-answer}
+use Rattle.lines.specs.Written.{Figures, Writes, Means, value, commas, before}
+use Rattle.lines.specs.Rows.{Read}
 use Rattle.lines.proofs.Splits.{plain, at-comma, after-comma, means-count}
 use Rattle.lines.proofs.Texts.{first-digit, digit-in, not-figures, not-both}
 
@@ -72,9 +70,9 @@ means-same [] s line line′ e h k = absurd h
 means-same (c ∷ cs) [] line line′ e h k = absurd k
 means-same (c ∷ []) (d ∷ []) line line′ e h k = ap (λ x. x ∷ []) (writes-once c d line h (subst (Writes d) (sym e) k))
 means-same (c ∷ []) (d ∷ f ∷ ds) line line′ e h k =
-    absurd (omega (arith, plain c line h, means-count (d ∷ f ∷ ds) line′ k, ap commas e))
+    absurd (omega (arith, means-count (c ∷ []) line h, means-count (d ∷ f ∷ ds) line′ k, ap commas e))
 means-same (c ∷ g ∷ cs) (d ∷ []) line line′ e h k =
-    absurd (omega (arith, plain d line′ k, means-count (c ∷ g ∷ cs) line h, ap commas e))
+    absurd (omega (arith, means-count (d ∷ []) line′ k, means-count (c ∷ g ∷ cs) line h, ap commas e))
 means-same (c ∷ g ∷ cs) (d ∷ f ∷ ds) line line′ e h k =
     let front = fronts c d line (h .0) (h .1) (k .0) (k .1) (h .2) (e ∙ k .2) (h .3) (k .3) in
     let back = backs c d line (h .0) (h .1) (k .0) (k .1) (h .2) (e ∙ k .2) (h .3) (k .3) in
@@ -82,23 +80,23 @@ means-same (c ∷ g ∷ cs) (d ∷ f ∷ ds) line line′ e h k =
     let rest = means-same (g ∷ cs) (f ∷ ds) (h .1) (k .1) back (h .4) (k .4) in
     λ i. one i ∷ rest i
 
-pub means-once : One-meaning
+pub means-once : (line : List ℕ) (r s : List Full) → Means r line → Means s line → r ≡ s
 means-once line r s h k = means-same r s line line refl h k
 
-pub read-once : One-answer
-read-once text at row (Ok Row) (Ok Row) r s m n l o h k = (refl, means-once _ r s (h .1) (k .1), h .2 ∙ sym (k .2))
-read-once text at row (Ok Row) (Ok End) r s m n l o h k = absurd (omega (arith, h .0, k .0))
-read-once text at row (Ok Row) (Err Miscounted) r s m n l o h k = absurd (k .1 (means-count r _ (h .1) ∙ l))
-read-once text at row (Ok Row) (Err Malformed) r s m n l o h k = absurd (k .2 r (h .1))
-read-once text at row (Ok End) (Ok Row) r s m n l o h k = absurd (omega (arith, h .0, k .0))
-read-once text at row (Ok End) (Ok End) r s m n l o h k = (refl, h .1 ∙ sym (k .1), h .2 ∙ sym (k .2))
-read-once text at row (Ok End) (Err Miscounted) r s m n l o h k = absurd (omega (arith, h .0, k .0))
-read-once text at row (Ok End) (Err Malformed) r s m n l o h k = absurd (omega (arith, h .0, k .0))
-read-once text at row (Err Miscounted) (Ok Row) r s m n l o h k = absurd (h .1 (means-count s _ (k .1) ∙ o))
-read-once text at row (Err Miscounted) (Ok End) r s m n l o h k = absurd (omega (arith, h .0, k .0))
-read-once text at row (Err Miscounted) (Err Miscounted) r s m n l o h k = (refl, h .2 ∙ sym (k .2), h .3 ∙ sym (k .3))
-read-once text at row (Err Miscounted) (Err Malformed) r s m n l o h k = absurd (h .1 (k .1))
-read-once text at row (Err Malformed) (Ok Row) r s m n l o h k = absurd (h .2 s (k .1))
-read-once text at row (Err Malformed) (Ok End) r s m n l o h k = absurd (omega (arith, h .0, k .0))
-read-once text at row (Err Malformed) (Err Miscounted) r s m n l o h k = absurd (k .1 (h .1))
-read-once text at row (Err Malformed) (Err Malformed) r s m n l o h k = (refl, h .3 ∙ sym (k .3), h .4 ∙ sym (k .4))
+pub read-once : (text : List ℕ) (at : ℕ) (old : List Full) (a b : Result Answer LineRefusal) (r s : List Full) (m n : ℕ) → Read text at old a r m → Read text at old b s n → (a ≡ b) × (r ≡ s) × (m ≡ n)
+read-once text at old (Ok Row) (Ok Row) r s m n h k = (refl, means-once _ r s (h .1) (k .1), h .2 ∙ sym (k .2))
+read-once text at old (Ok Row) (Ok End) r s m n h k = absurd (omega (arith, h .0, k .0))
+read-once text at old (Ok Row) (Err Miscounted) r s m n h k = absurd (k .1 (means-count r _ (h .1) ∙ h .3))
+read-once text at old (Ok Row) (Err Malformed) r s m n h k = absurd (k .2 r (h .1))
+read-once text at old (Ok End) (Ok Row) r s m n h k = absurd (omega (arith, h .0, k .0))
+read-once text at old (Ok End) (Ok End) r s m n h k = (refl, h .1 ∙ sym (k .1), h .2 ∙ sym (k .2))
+read-once text at old (Ok End) (Err Miscounted) r s m n h k = absurd (omega (arith, h .0, k .0))
+read-once text at old (Ok End) (Err Malformed) r s m n h k = absurd (omega (arith, h .0, k .0))
+read-once text at old (Err Miscounted) (Ok Row) r s m n h k = absurd (h .1 (means-count s _ (k .1) ∙ k .3))
+read-once text at old (Err Miscounted) (Ok End) r s m n h k = absurd (omega (arith, h .0, k .0))
+read-once text at old (Err Miscounted) (Err Miscounted) r s m n h k = (refl, h .2 ∙ sym (k .2), h .3 ∙ sym (k .3))
+read-once text at old (Err Miscounted) (Err Malformed) r s m n h k = absurd (h .1 (k .1))
+read-once text at old (Err Malformed) (Ok Row) r s m n h k = absurd (h .2 s (k .1))
+read-once text at old (Err Malformed) (Ok End) r s m n h k = absurd (omega (arith, h .0, k .0))
+read-once text at old (Err Malformed) (Err Miscounted) r s m n h k = absurd (k .1 (h .1))
+read-once text at old (Err Malformed) (Err Malformed) r s m n h k = (refl, h .3 ∙ sym (k .3), h .4 ∙ sym (k .4))

@@ -1,4 +1,4 @@
--- What a first character begins. Assumes nothing.
+-- What the first character of a text begins.
 use mathlib.Core.Path.{_≡_}
 use mathlib.Core.Bool.{Bool, true, false, _||_}
 use Prim.Native.Nat.{ℕ}
@@ -11,6 +11,7 @@ use Rattle.lines.specs.declared.cell.First.the-variants.{Letter, Figure, Other
 abbrev pub isFigure : ℕ → Bool
 isFigure b = asciiDigit b || eqb b 45
 
+-- a letter begins a code, a digit or minus a number, and nothing else begins a cell
 abbrev pub Begins : First → ℕ → Type 0
 Begins Letter b = asciiLetter b ≡ true
 Begins Figure b = isFigure b ≡ true

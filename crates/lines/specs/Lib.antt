@@ -1,4 +1,5 @@
-pub mod Firsts
 pub mod Written
+pub mod Firsts
 pub mod Rows
 pub mod Printed
+pub mod Laws

@@ -1,9 +1,9 @@
--- What text stands for a cell, and what line for a row. Assumes nothing.
+-- What text stands for a cell, what line for a row, and where a line lies in a text.
 use mathlib.Core.Path.{_≡_}
 use mathlib.Core.Bool.{Bool, true, cond, not}
 use mathlib.Core.List.{List, [], _∷_, _++_}
 use Prim.Native.Nat.{ℕ, suc, min, _+_, _-_, _*_, _≤_}
-use lib.Dec.{eqb}
+use lib.Dec.{eqb, ltb}
 use lib.IntN.{ℤ, pos, negsuc}
 use lib.ListN.{length, getD, take, drop}
 use Rattle.std.specs.shelf.Lists.{folded, leading}
@@ -16,7 +16,7 @@ use Rattle.cells.specs.declared.full.Full.the-variants.{Missing, Number, Code, 
 abbrev pub value : List ℕ → ℕ
 value ds = folded (λ n d. n * 10 + (d - 48)) 0 ds
 
--- 1 to 12 digits without needless leading zero
+-- 1 to 12 digits without needless leading zero (48)
 pub record Numeral (ds : List ℕ) : Type 0 where
   pub some : 1 ≤ length ds
   pub few : length ds ≤ 12
@@ -41,10 +41,12 @@ Means [] line = ⊥
 Means (c ∷ []) line = Writes c line
 Means (c ∷ d ∷ cs) line = (t : List ℕ) × (u : List ℕ) × (line ≡ t ++ 44 ∷ u) × Writes c t × Means (d ∷ cs) u
 
+-- how many commas a line has
 abbrev pub commas : List ℕ → ℕ
 commas [] = 0
 commas (b ∷ bs) = cond (eqb b 44) 1 0 + commas bs
 
+-- x is not the byte b
 abbrev pub unlike : ℕ → ℕ → Bool
 unlike b x = not (eqb x b)
 
@@ -59,3 +61,7 @@ lineAt text at = take (before 10 (drop at text)) (drop at text)
 -- the place behind that line and its line feed
 abbrev pub behind : List ℕ → ℕ → ℕ
 behind text at = min (at + before 10 (drop at text) + 1) (length text)
+
+-- the same, and the place itself where no byte is left
+abbrev pub passed : List ℕ → ℕ → ℕ
+passed text at = cond (ltb at (length text)) (behind text at) at

@@ -8,6 +8,7 @@ mod reader;
 
 pub use cell::read_cell;
 pub use laws::one_meaning;
+pub use laws::printed_reads_back;
 pub use print::row_text;
 pub use reader::Answer;
 pub use reader::AnswerPartialEq;

@@ -1,7 +1,8 @@
 // Reads the lines of a text into rows.
 ghost use mathlib.Core.Path.{_≡_};
 ghost use Rattle.std.specs.declared.option.Option.the-variants.{Some};
-ghost use Rattle.lines.specs.Rows.{Read, numberOf, refusalText, passed};
+ghost use Rattle.lines.specs.Rows.{Read, numberOf, refusalText};
+ghost use Rattle.lines.specs.Written.{passed};
 use crate::guard::Guard;
 use crate::line::count;
 use crate::line::fill;

@@ -3,7 +3,9 @@ use mathlib.Core.Bool.{Bool, _&&_}
 use mathlib.Core.List.{List, [], _∷_}
 use Prim.Native.Nat.{ℕ, zero, suc, _*_, _%_}
 use lib.Dec.{eqb, leb}
+use denote.Ref.{now}
 use lib.ListN.{take, drop}
+use Rattle.memory.specs.declared.rows.Rows.{Rows}
 use Rattle.memory.specs.declared.rows.RowsRefusal.{RowsRefusal}
 use Rattle.memory.specs.declared.rows.RowsRefusal.the-variants.{NotWholeRows}
 
@@ -15,6 +17,10 @@ rowAt c cells i = take c (drop (i * c) cells)
 abbrev pub rowsFrom : {C : Type 0} → ℕ → ℕ → List C → List (List C)
 rowsFrom zero c cells = []
 rowsFrom (suc n) c cells = take c cells ∷ rowsFrom n c (drop c cells)
+
+-- the rows that lie in a piece of lent memory
+abbrev pub rowsIn : {C : Type 0} → Rows C → List (List C)
+rowsIn t = rowsFrom (t .count) (t .columns) (now (t .cells))
 
 -- 1 to 16 columns, and the memory holds whole rows
 abbrev pub areRows : ℕ → ℕ → Bool

@@ -5,7 +5,7 @@ use native.Mathlib.Omega.{arith}
 use lib.ListN.{length, take, drop, set, length-set}
 use Rattle.std.proofs.shelf.Lists.{take-more-set, take-all}
 use Rattle.lines.specs.Written.{Means, Writes, commas, before}
-use Rattle.lines.proofs.Splits.{Sofar, sofar-none, sofar-more, sofar-all, stuck, split, all-plain, Here, here}
+use Rattle.lines.proofs.Splits.{Sofar, sofar-none, sofar-more, sofar-all, stuck, split, no-commas, Here, here}
 use Rattle.lines.proofs.line.fill.Needs as need
 use Rattle.lines.proofs.line.fill.Needs.{After-find-to}
 
@@ -41,7 +41,7 @@ returns-then-to-line c =
     let d = c .in-Some .c in
     let w : Writes d (take (before 44 rest) rest) = subst (λ x. Writes d (take x rest)) (h .size) (c .in-Some .ensures tt) in
     let all = h .last (c .if-to-line .taken) in
-    let full : length row ≡ n + 1 = omega (arith, all-plain rest all) in
+    let full : length row ≡ n + 1 = omega (arith, no-commas rest all) in
     let e : set row n d ≡ take n row ++ d ∷ [] =
     sym (take-all (n + 1) (set row n d) (omega (arith, length-set row n d))) ∙ take-more-set row n d (omega arith) in
     subst (λ l. Means l line) (sym e) (sofar-all line _ rest d (c .loop-c .inv .2) all w)
