@@ -1,34 +1,47 @@
--- What a text or a line stands for, or that it stands for nothing. Assumes nothing.
-use mathlib.Core.Path.{_≡_, refl, sym, ap, subst, _∙_}
-use mathlib.Core.Bool.{Bool, true, false}
+-- What a text or a line stands for, or that it stands for nothing.
+use mathlib.Core.Path.{_≡_, refl, ap, subst, _∙_}
 use mathlib.Core.Logic.{⊎-elim, _⊎_, inl, inr}
-use mathlib.Core.List.{List, [], _∷_, _++_}
-use Prim.Native.Nat.{ℕ, zero, suc, _+_, _-_, _<_, _≤_}
+use mathlib.Core.List.{List, [], _∷_}
+use Prim.Native.Nat.{ℕ, zero, suc, _+_, _-_, _<_}
 use native.Mathlib.Omega.{arith}
 use lib.IntN.{ℤ, pos, negsuc}
-use lib.ListN.{length, getD, take, drop, length-drop}
+use lib.ListN.{length, getD, take, drop}
 use Rattle.std.specs.shelf.Text.{allDigits}
 use Rattle.std.proofs.shelf.Lists.{nil-from-length, take-all}
-use Rattle.std.proofs.shelf.Sums.{leading-le-length}
 use Rattle.std.proofs.shelf.Tests.{cases-lt, cases-eq, cases-bool, both-ways}
-use Rattle.cells.specs.Codes.{isCode, letters, packed}
+use Rattle.cells.specs.Codes.{isCode, packed}
 use Rattle.cells.specs.declared.full.Full.{Full}
-use Rattle.cells.specs.declared.full.Full.the-variants.{Missing, Number, Code, YesNo}
+use Rattle.cells.specs.declared.full.Full.the-variants.{Missing, Number, Code}
 use Rattle.cells.proofs.Packing.{back}
-use Rattle.lines.specs.Written.{Numeral, Figures, Writes, Means, value, commas, unlike, before}
+use Rattle.lines.specs.Written.{Sized, Numeral, Figures, Writes, Means, value, commas, before}
 use Rattle.lines.proofs.Splits.{split, step-on, step-back, stuck}
-use Rattle.lines.proofs.Texts.{minus, no-minus, not-figures, no-cell, first-digit, digit-in}
+use Rattle.lines.proofs.Texts.{no-minus, not-figures, no-cell}
+
+sized-decided : (t : List ℕ) → Sized t ⊎ (Sized t → ⊥)
+sized-decided t =
+    ⊎-elim
+    (λ none. inr (λ s. omega (arith, s .some)))
+    (λ some. ⊎-elim
+    (λ few. ⊎-elim
+    (λ one. inl (record { some = some; few = omega arith; lean = λ _. one }))
+    (λ more. ⊎-elim
+    (λ z. inr (λ s. more (s .lean z)))
+    (λ z. inl (record { some = some; few = omega arith; lean = λ e. absurd (z e) }))
+    (cases-eq (getD t 0 0) 48))
+    (cases-eq (length t) 1))
+    (λ many. inr (λ s. omega (arith, s .few)))
+    (cases-lt (length t) 13))
+    (cases-lt (length t) 1)
 
 numeral-decided : (t : List ℕ) → Numeral t ⊎ (Numeral t → ⊥)
 numeral-decided t =
     ⊎-elim
-    (λ few. ⊎-elim (λ d.
-    ⊎-elim
-    (λ e. inl (record { some = omega arith; few = omega arith; digits = d; lean = λ _. e }))
-    (λ more. ⊎-elim (λ z. inr (λ n. more (n .lean z))) (λ z. ⊎-elim (λ none. inr (λ n. omega (arith, n .some))) (λ some. inl (record { some = omega arith; few = omega arith; digits = d; lean = λ e. absurd (z e) })) (cases-lt (length t) 1)) (cases-eq (getD t 0 0) 48))
-    (cases-eq (length t) 1)) (λ d. inr (λ n. both-ways _ d (n .digits))) (cases-bool (allDigits t)))
-    (λ many. inr (λ n. omega (arith, n .few)))
-    (cases-lt (length t) 13)
+    (λ s. ⊎-elim
+    (λ d. inl (record { sized = s; digits = d }))
+    (λ d. inr (λ n. both-ways _ d (n .digits)))
+    (cases-bool (allDigits t)))
+    (λ bad. inr (λ n. bad (n .sized)))
+    (sized-decided t)
 
 figures-decided : (t : List ℕ) → ((z : ℤ) × Figures z t) ⊎ ((z : ℤ) → Figures z t → ⊥)
 figures-decided [] = inr (not-figures [] refl)

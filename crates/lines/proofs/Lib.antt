@@ -1,3 +1,4 @@
+-- The lemmas that the answers and the crates above share.
 pub mod Texts
 pub mod Splits
 pub mod Once

@@ -2,7 +2,7 @@
 use mathlib.Core.Path.{_≡_, refl, sym, ap, subst, _∙_}
 use mathlib.Core.Bool.{true}
 use mathlib.Core.List.{List, [], _∷_, _++_}
-use Prim.Native.Nat.{ℕ, suc, _+_}
+use Prim.Native.Nat.{ℕ, suc}
 use native.Mathlib.Omega.{arith}
 use lib.IntN.{ℤ, pos, negsuc}
 use lib.ListN.{length, getD, take, drop}
@@ -33,7 +33,7 @@ figures-once (negsuc m) (negsuc n) t h k =
     ap negsuc (omega arith)
 
 filled : (z : ℤ) (t : List ℕ) → Figures z t → t ≡ [] → ⊥
-filled (pos n) t k e = omega (arith, k .0 .some, ap length e)
+filled (pos n) t k e = omega (arith, k .0 .sized .some, ap length e)
 filled (negsuc n) t k e = omega (arith, ap length (sym (k .1) ∙ e))
 
 apart : (z : ℤ) (t s : List ℕ) → Figures z t → isCode s ≡ true → s ≡ t → ⊥

@@ -27,25 +27,16 @@ use Rattle.lines.proofs.Texts.{before-append, text-lacks}
 use Rattle.lines.proofs.Splits.{means-count}
 
 -- one cell more
-pub rowText-push : (r : List Full) (c : Full) → 0 < length r → rowText (r ++ c ∷ []) ≡ rowText r ++ 44 ∷ fullText c
+rowText-push : (r : List Full) (c : Full) → 0 < length r → rowText (r ++ c ∷ []) ≡ rowText r ++ 44 ∷ fullText c
 rowText-push [] c h = absurd (omega arith)
 rowText-push (b ∷ []) c h = refl
 rowText-push (b ∷ d ∷ ds) c h = ap (λ x. fullText b ++ 44 ∷ x) (rowText-push (d ∷ ds) c (omega arith)) ∙ sym (append-assoc (fullText b) (44 ∷ rowText (d ∷ ds)) (44 ∷ fullText c))
 
 -- the cells up to a place, and the one that stands there
-module _ (row : List Full) (i : ℕ) (c : Full) (h : i < length row) (e : c ≡ getD row i c) where
-  cells-more : take (i + 1) row ≡ take i row ++ c ∷ []
-  cells-more = take-more row i c h ∙ ap (λ x. take i row ++ x ∷ []) (sym e)
-
-  pub first-more : i ≡ 0 → rowText (take (i + 1) row) ≡ rowText (take i row) ++ fullText c
-  first-more z =
-      let none : take i row ≡ [] = ap (λ n. take n row) z in
-      ap rowText (cells-more ∙ ap (λ r. r ++ c ∷ []) none) ∙ ap (λ r. rowText r ++ fullText c) (sym none)
-
-  pub next-more : 0 < i → rowText (take (i + 1) row) ≡ (rowText (take i row) ++ 44 ∷ []) ++ fullText c
-  next-more z =
-      let some : 0 < length (take i row) = simp length-take (omega arith) in
-      ap rowText cells-more ∙ rowText-push (take i row) c some ∙ sym (append-assoc (rowText (take i row)) (44 ∷ []) (fullText c))
+pub rowText-more : (row : List Full) (i : ℕ) (c : Full) → i < length row → c ≡ getD row i c → 0 < i → rowText (take (i + 1) row) ≡ rowText (take i row) ++ 44 ∷ fullText c
+rowText-more row i c h e z =
+    let some : 0 < length (take i row) = simp length-take (omega arith) in
+    ap rowText (take-more row i c h ∙ ap (λ x. take i row ++ x ∷ []) (sym e)) ∙ rowText-push (take i row) c some
 
 -- the digits of a number, and their value
 own : Numerals (λ ds. allDigits ds ≡ true) value
@@ -62,14 +53,12 @@ numeral-decimal : (n : ℕ) → n < 10 ^ 12 → Numeral (decimal n)
 numeral-decimal n h =
     let fits : n < 2 ^ 64 = omega arith in
     record {
-      some = decimal-some n fits;
-      few = length-decimal-le 12 n (omega arith) h fits;
+      sized = record { some = decimal-some n fits; few = length-decimal-le 12 n (omega arith) h fits; lean = lean-decimal n fits };
       digits = digits-decimal own n fits;
-      lean = lean-decimal n fits;
     }
 
 decimal-numeral : (ds : List ℕ) → Numeral ds → decimal (value ds) ≡ ds
-decimal-numeral ds k = decimal-value own ds (k .digits) (k .some) (k .lean) (omega (arith, value-short own ds 12 (k .digits) (k .few)))
+decimal-numeral ds k = decimal-value own ds (k .digits) (k .sized .some) (k .sized .lean) (omega (arith, value-short own ds 12 (k .digits) (k .sized .few)))
 
 figures-signed : (z : ℤ) → Short z → Figures z (signed z)
 figures-signed (pos n) h = (numeral-decimal n h, value-decimal own n (omega arith))
@@ -80,8 +69,8 @@ signed-figures (pos n) t k = ap decimal (sym (k .1)) ∙ decimal-numeral t (k .0
 signed-figures (negsuc n) t k = ap (λ m. 45 ∷ decimal m) (sym (k .3)) ∙ ap (λ ds. 45 ∷ ds) (decimal-numeral (k .0) (k .2)) ∙ sym (k .1)
 
 short-figures : (z : ℤ) (t : List ℕ) → Figures z t → Short z
-short-figures (pos n) t k = omega (arith, k .1, value-short own t 12 (k .0 .digits) (k .0 .few))
-short-figures (negsuc n) t k = omega (arith, k .3, value-short own (k .0) 12 (k .2 .digits) (k .2 .few))
+short-figures (pos n) t k = omega (arith, k .1, value-short own t 12 (k .0 .digits) (k .0 .sized .few))
+short-figures (negsuc n) t k = omega (arith, k .3, value-short own (k .0) 12 (k .2 .digits) (k .2 .sized .few))
 
 -- what is printed of a cell, and the texts that stand for it
 cell-means : (c : Full) → Writable c → Writes c (fullText c)

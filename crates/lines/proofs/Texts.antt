@@ -23,7 +23,7 @@ use Rattle.lines.specs.Written.{Numeral, Figures, Writes, value, unlike, befor
 
 -- the first byte of a numeral is a digit
 pub first-digit : (t : List ℕ) → Numeral t → asciiDigit (getD t 0 0) ≡ true
-first-digit [] n = absurd (omega (arith, n .some))
+first-digit [] n = absurd (omega (arith, n .sized .some))
 first-digit (b ∷ t) n = and-parts (asciiDigit b) (allDigits t) (n .digits) .0
 
 pub digit-in : (b : ℕ) → asciiDigit b ≡ true → (48 ≤ b) × (b ≤ 57)

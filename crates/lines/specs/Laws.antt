@@ -14,6 +14,7 @@ use Rattle.lines.specs.Written.{Writes, Means}
 use Rattle.lines.specs.Rows.{Read}
 use Rattle.lines.specs.Printed.{rowText, Writable}
 
+-- nothing is read in two ways
 pub record One-meaning : Type 0 where
   -- a text stands for one cell at most
   pub cell : (text : List ℕ) (c d : Full) → Writes c text → Writes d text → c ≡ d
@@ -22,6 +23,7 @@ pub record One-meaning : Type 0 where
   -- the text, the place in it and the row handed over settle a reader's answer, the row that it leaves and its next place
   pub answer : (text : List ℕ) (at : ℕ) (old : List Full) (a b : Result Answer LineRefusal) (r s : List Full) (m n : ℕ) → Read text at old a r m → Read text at old b s n → (a ≡ b) × (r ≡ s) × (m ≡ n)
 
+-- printing a row and reading it undo one another
 pub record Reads-back : Type 0 where
   -- what is printed of a row that text can write stands for the row
   pub means : (row : List Full) → 0 < length row → All Writable row → Means row (rowText row)

@@ -1,3 +1,4 @@
+-- The definitions that the contracts cite.
 pub mod Written
 pub mod Firsts
 pub mod Rows

@@ -17,7 +17,7 @@ abbrev pub Short : ℤ → Type 0
 Short (pos n) = n < 10 ^ 12
 Short (negsuc n) = suc n < 10 ^ 12
 
--- a cell that text can write: yes, no and long numbers it cannot
+-- a cell that text can write; yes and no are none, since their words stand for codes
 abbrev pub Writable : Full → Type 0
 Writable Missing = Unit {0}
 Writable (Number z) = Short z

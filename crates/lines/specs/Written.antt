@@ -1,4 +1,4 @@
--- What text stands for a cell, what line for a row, and where a line lies in a text.
+-- What text stands for a cell, what line for a row, and where a line lies in a text (docs/RULES.md, "Lines of text").
 use mathlib.Core.Path.{_≡_}
 use mathlib.Core.Bool.{Bool, true, cond, not}
 use mathlib.Core.List.{List, [], _∷_, _++_}
@@ -16,12 +16,16 @@ use Rattle.cells.specs.declared.full.Full.the-variants.{Missing, Number, Code, 
 abbrev pub value : List ℕ → ℕ
 value ds = folded (λ n d. n * 10 + (d - 48)) 0 ds
 
--- 1 to 12 digits without needless leading zero (48)
-pub record Numeral (ds : List ℕ) : Type 0 where
+-- 1 to 12 bytes, and a zero (48) in front only where it stands alone
+pub record Sized (ds : List ℕ) : Type 0 where
   pub some : 1 ≤ length ds
   pub few : length ds ≤ 12
-  pub digits : allDigits ds ≡ true
   pub lean : getD ds 0 0 ≡ 48 → length ds ≡ 1
+
+-- such bytes that are all digits
+pub record Numeral (ds : List ℕ) : Type 0 where
+  pub sized : Sized ds
+  pub digits : allDigits ds ≡ true
 
 -- a numeral, with a minus (45) where the number is below 0: so there is no -0
 abbrev pub Figures : ℤ → List ℕ → Type 0

@@ -3,20 +3,28 @@ ghost use mathlib.Core.Path.{_≡_};
 ghost use Prim.Native.Nat.{_<_, _^_};
 ghost use lib.IntN.{ℤ};
 ghost use Rattle.std.specs.Options.{Cases};
+ghost use Rattle.std.specs.Orderings.{Decides};
 ghost use Rattle.cells.specs.declared.full.Full.{Full as Cell};
 ghost use Rattle.lines.specs.Firsts.{Begins};
-ghost use Rattle.lines.specs.Written.{Numeral, Figures, Writes, value};
+ghost use Rattle.lines.specs.Written.{Sized, Numeral, Figures, Writes, value};
 use cells::Code;
 use cells::Full;
 
-// The number that 1 to 12 digits without needless leading zero write.
+// Whether a text has 1 to 12 bytes and no needless zero in front.
+fn sized(text: &[u8]) -> bool
+    ensures { λ r. ⌜ Decides r (Sized (now (text .entry))) ⌝ }
+{
+    if text.len() < 1 || text.len() > 12 {
+        return false;
+    }
+    text[0] != b'0' || text.len() == 1
+}
+
+// The number that the digits of such a text write.
 fn digits(text: &[u8]) -> Option<u64>
     ensures { λ r. ⌜ Cases r (Numeral (now (text .entry)) → ⊥) (λ n. Numeral (now (text .entry)) × (value (now (text .entry)) ≡ n) × (n < 10 ^ 12)) ⌝ }
 {
-    if text.len() < 1 || text.len() > 12 {
-        return None;
-    }
-    if text[0] == b'0' && text.len() > 1 {
+    if !sized(text) {
         return None;
     }
     let mut n = 0;
@@ -29,7 +37,7 @@ fn digits(text: &[u8]) -> Option<u64>
     Some(n)
 }
 
-// The number that such digits write, with a minus in front or without.
+// The number that such a text writes, with a minus in front where it is below 0.
 fn number(text: &[u8]) -> Option<i64>
     ensures { λ r. ⌜ Cases r ((z : ℤ) → Figures z (now (text .entry)) → ⊥) (λ z. Figures z (now (text .entry))) ⌝ }
 {

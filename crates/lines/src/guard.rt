@@ -1,4 +1,4 @@
-// Sets a cursor back unless what was read was accepted.
+// Holds a cursor that is set back unless what was read is accepted.
 ghost use mathlib.Core.Path.{_≡_};
 ghost use mathlib.Core.Bool.{cond};
 

@@ -15,5 +15,6 @@ pub use reader::AnswerPartialEq;
 pub use reader::LineRefusal;
 pub use reader::LineRefusalDisplay;
 pub use reader::LineRefusalPartialEq;
+pub use reader::line_end;
 pub use reader::pass_line;
 pub use reader::read_row;

@@ -1,12 +1,13 @@
 -- A part of memory whose ends are held within it, and rows one after another.
 use mathlib.Core.Path.{_≡_, refl, sym, ap, _∙_}
-use mathlib.Core.List.{List, [], _∷_}
+use mathlib.Core.List.{List, [], _∷_, _++_}
 use mathlib.Core.Logic.{⊎-elim}
 use Prim.Native.Nat.{ℕ, zero, suc, min, _+_, _*_, _-_, _^_, _≤_, _<_}
 use native.Mathlib.Nat.{suc-mul, zero-mul}
 use native.Mathlib.Omega.{arith}
-use lib.ListN.{length, getD, take, drop, length-drop}
-use Rattle.std.proofs.shelf.Lists.{take-all, drop-all, drop-drop}
+use lib.ListN.{length, getD, take, drop, length-drop, length-append}
+use Rattle.std.specs.shelf.Lists.{All, joined}
+use Rattle.std.proofs.shelf.Lists.{take-all, take-at, drop-all, drop-at, drop-drop}
 use Rattle.std.proofs.shelf.Tests.{cases-lt}
 use Rattle.memory.specs.Rows.{rowAt, rowsFrom}
 
@@ -36,3 +37,16 @@ getD-rowsFrom (suc n) c xs (suc i) h = getD-rowsFrom n c (drop c xs) i (omega ar
 pub length-rowsFrom : {C : Type 0} (n c : ℕ) (xs : List C) → length (rowsFrom n c xs) ≡ n
 length-rowsFrom zero c xs = refl
 length-rowsFrom (suc n) c xs = ap suc (length-rowsFrom n c (drop c xs))
+
+-- rows of one width, laid one behind the other
+pub length-cells : {C : Type 0} (w : ℕ) (rs : List (List C)) → All (λ r. length r ≡ w) rs → length (joined (λ r. r) rs) ≡ length rs * w
+length-cells w [] h = sym (zero-mul w)
+length-cells w (r ∷ rs) h = length-append r (joined (λ x. x) rs) ∙ omega (arith, h .0, length-cells w rs (h .1), suc-mul (length rs) w)
+
+pub rows-back : {C : Type 0} (w : ℕ) (rs : List (List C)) → All (λ r. length r ≡ w) rs → rowsFrom (length rs) w (joined (λ r. r) rs) ≡ rs
+rows-back w [] h = refl
+rows-back w (r ∷ rs) h =
+    let rest = joined (λ x. x) rs in
+    ap (λ x. x ∷ rowsFrom (length rs) w (drop w (r ++ rest))) (take-at r rest w (h .0))
+    ∙ ap (λ x. r ∷ rowsFrom (length rs) w x) (drop-at r rest w (h .0))
+    ∙ ap (λ x. r ∷ x) (rows-back w rs (h .1))

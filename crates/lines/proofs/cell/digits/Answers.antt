@@ -1,30 +1,36 @@
-use mathlib.Core.Path.{_≡_, refl, sym, ap, _∙_}
-use mathlib.Core.Bool.{true, _&&_}
-use mathlib.Core.Logic.{⊎-elim}
+-- Twelve digits fit, and one digit more is one step of the value.
+use mathlib.Core.Path.{refl, sym, ap, _∙_}
+use mathlib.Core.Bool.{_&&_}
+use mathlib.Core.List.{List}
 use Prim.Native.Nat.{ℕ, _+_, _-_, _*_, _^_, _<_, _≤_}
 use native.Mathlib.Nat.{pow-suc, pow-le-pow-right}
 use native.Mathlib.Numerals.{add-one}
 use native.Mathlib.Omega.{arith}
-use lib.ListN.{length, getD, take, drop}
+use lib.ListN.{length, getD, drop}
 use Rattle.std.specs.shelf.Text.{allDigits}
 use Rattle.std.proofs.shelf.Lists.{take-all, at-drop-all}
 use Rattle.std.proofs.shelf.Sums.{folded-more}
-use Rattle.lines.specs.Written.{value}
+use Rattle.lines.specs.Written.{Sized, value}
 use Rattle.lines.proofs.Texts.{digits-step, digit-in, not-digits}
 use Rattle.lines.proofs.cell.digits.Needs as need
 
--- at most i digits
-room : (i k n : ℕ) → i ≤ k → n < 10 ^ i → n < 10 ^ k
-room i k n h l = let m : 10 ^ i ≤ 10 ^ k = pow-le-pow-right (omega arith) h in omega arith
+-- the first i digits of at most 12
+room : (t : List ℕ) (i n : ℕ) → Sized t → i ≤ length t → n < 10 ^ i → n < 10 ^ 12
+room t i n s h l =
+    let few : i ≤ 12 = omega (arith, s .few) in
+    let m : 10 ^ i ≤ 10 ^ 12 = pow-le-pow-right (omega arith) few in
+    omega arith
 
 pub loop-b-holds : need.loop-b-holds
 loop-b-holds c = (refl, omega arith, refl)
 
 pub mul-n : need.mul-n
-mul-n c = omega (arith, room (c .loop-b .b-index) 12 (c .loop-b .n) (omega arith) (c .loop-b .inv .1))
+mul-n c = omega (arith, room _ _ _ (c .if-not-sized .ensures tt .0 refl) (c .loop-b .kept .b-index-end) (c .loop-b .inv .1))
 
 pub add-n : need.add-n
-add-n c = omega (arith, digit-in (getD (c .args .text .now) (c .loop-b .b-index) 0) (sym (c .if-not-is-ascii-digit .ensures tt .value)), room (c .loop-b .b-index) 12 (c .loop-b .n) (omega arith) (c .loop-b .inv .1))
+add-n c =
+    let d = digit-in (getD (c .args .text .now) (c .loop-b .b-index) 0) (sym (c .if-not-is-ascii-digit .ensures tt .value)) in
+    omega (arith, room _ _ _ (c .if-not-sized .ensures tt .0 refl) (c .loop-b .kept .b-index-end) (c .loop-b .inv .1))
 
 pub returns-then-not-is-ascii-digit : need.returns-then-not-is-ascii-digit
 returns-then-not-is-ascii-digit c =
@@ -44,13 +50,9 @@ loop-b-again c =
 pub returns : need.returns
 returns c =
     let t = c .args .text .now in
-    let i = c .loop-b .b-index in (
-      record {
-        some = c .if-text-lt1 .left;
-        few = c .if-text-gt12 .left;
-        digits = sym (c .loop-b .inv .2) ∙ at-drop-all allDigits t i (c .loop-b-test .left);
-        lean = λ e. ⊎-elim (λ w. omega arith) (λ w. absurd (w e)) (c .else-text-eq48 .either);
-      },
+    let i = c .loop-b .b-index in
+    let s = c .if-not-sized .ensures tt .0 refl in (
+      record { sized = s; digits = sym (c .loop-b .inv .2) ∙ at-drop-all allDigits t i (c .loop-b-test .left) },
       ap value (sym (take-all i t (c .loop-b-test .left))) ∙ sym (c .loop-b .inv .0),
-      room i 12 (c .loop-b .n) (omega arith) (c .loop-b .inv .1),
+      room t i (c .loop-b .n) s (c .loop-b .kept .b-index-end) (c .loop-b .inv .1),
     )

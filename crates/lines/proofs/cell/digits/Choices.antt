@@ -1,3 +1,4 @@
+-- The number so far is the value of the digits so far, and what is left decides whether all are digits.
 use mathlib.Core.Path.{_≡_}
 use Prim.Native.Nat.{_<_, _^_}
 use lib.ListN.{take, drop}

@@ -1,12 +1,13 @@
-use mathlib.Core.Path.{_≡_, refl, sym, ap, subst, _∙_}
-use Prim.Native.Nat.{ℕ, suc, _+_, _-_}
+-- A minus is followed by the digits of a number above 0, or the text writes no number.
+use mathlib.Core.Path.{_≡_, sym, subst, _∙_}
+use Prim.Native.Nat.{suc, _-_}
 use native.Mathlib.Omega.{arith}
-use lib.IntN.{ℤ, pos, negsuc, _-ℤ_}
+use lib.IntN.{pos, negsuc, _-ℤ_}
 use mir.Val.{toZ, ofZ}
 use mir.Syntax.{w64}
 use Rattle.std.proofs.shelf.Signed.{ints}
-use Rattle.lines.specs.Written.{Numeral, Figures, value}
-use Rattle.lines.proofs.Texts.{minus, no-minus, not-figures}
+use Rattle.lines.specs.Written.{Figures}
+use Rattle.lines.proofs.Texts.{minus, no-minus}
 use Rattle.lines.proofs.cell.number.Needs as need
 
 pub returns-in-Some-eq0 : need.returns-in-Some-eq0

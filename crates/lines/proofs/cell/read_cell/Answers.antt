@@ -1,3 +1,4 @@
+-- A text that its first byte's kind does not take stands for no cell.
 use lib.ListN.{getD}
 use Rattle.std.proofs.shelf.Lists.{nil-from-length}
 use Rattle.std.proofs.shelf.Tests.{both-ways}

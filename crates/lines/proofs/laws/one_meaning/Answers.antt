@@ -1,3 +1,4 @@
+-- Gathers the lemmas on one meaning and one answer.
 use Rattle.lines.proofs.Once.{writes-once, means-once, read-once}
 use Rattle.lines.proofs.laws.one_meaning.Needs as need
 

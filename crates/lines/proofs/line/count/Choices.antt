@@ -1,3 +1,4 @@
+-- The commas so far and those of the rest make all.
 use mathlib.Core.Path.{_≡_}
 use Prim.Native.Nat.{_+_, _≤_}
 use lib.ListN.{drop}

@@ -1,3 +1,4 @@
+-- The row's front holds the cells so far, and the rest of the line stands for the rest of the row.
 use mathlib.Core.Path.{_≡_}
 use Prim.Native.Nat.{_+_, _-_, _≤_}
 use lib.ListN.{length, take, drop}

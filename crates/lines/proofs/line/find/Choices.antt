@@ -1,3 +1,4 @@
+-- The first match from here on is the first match from the start on.
 use mathlib.Core.Path.{_≡_}
 use Prim.Native.Nat.{_+_, _-_, _≤_}
 use lib.ListN.{length, drop}

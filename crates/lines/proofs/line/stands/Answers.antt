@@ -1,3 +1,4 @@
+-- One cell more is read, or no row is meant.
 use mathlib.Core.Path.{sym, subst}
 use mathlib.Core.List.{[], _∷_, _++_}
 use native.Mathlib.Omega.{arith}

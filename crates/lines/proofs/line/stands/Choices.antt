@@ -1,3 +1,4 @@
+-- Some cells are read, and the rest of the line decides.
 use Prim.Native.Nat.{_-_, _≤_}
 use mathlib.Core.List.{List}
 use lib.ListN.{length, drop}

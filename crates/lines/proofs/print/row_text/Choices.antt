@@ -1,3 +1,4 @@
+-- The text so far is what is printed of the cells so far.
 use mathlib.Core.Path.{_≡_}
 use lib.ListN.{take}
 use Rattle.std.specs.Of.String.{string-bytes}

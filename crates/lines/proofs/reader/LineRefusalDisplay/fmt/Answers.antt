@@ -1,3 +1,4 @@
+-- What is written is the text of the refusal at hand.
 use mathlib.Core.Path.{sym, ap, subst}
 use Rattle.std.specs.Written.{Put}
 use Rattle.lines.specs.Rows.{refusalText}
