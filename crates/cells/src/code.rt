@@ -71,7 +71,8 @@ impl Code {
         ensures bytes { λ r. ⌜ now (out .exit) ≡ letters (self .bits) ++ drop r (now (out .entry)) ⌝ }
     {
         let mut n = 0;
-        let mut rest = self.bits;
+        let Code { bits } = self;
+        let mut rest = bits;
         while rest != 0 {
             out[n] = (rest / TOP) as u8;
             rest = rest % TOP * 256;

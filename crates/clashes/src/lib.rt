@@ -3,6 +3,7 @@ mod answer;
 mod layer;
 mod lists;
 mod loops;
+mod minutes;
 
 pub use answer::ClashLists;
 pub use answer::InputError;
@@ -15,3 +16,4 @@ pub use loops::Pair;
 pub use loops::PairPartialEq;
 pub use loops::pairs;
 pub use loops::pairs_except;
+pub use minutes::read_minutes;

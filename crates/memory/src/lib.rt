@@ -3,6 +3,7 @@ mod row;
 mod rows;
 
 pub use row::cell_at;
+pub use row::row_at;
 pub use rows::Rows;
 pub use rows::RowsClone;
 pub use rows::RowsRefusal;

@@ -6,6 +6,8 @@ ghost use lib.ListN.{length};
 ghost use Rattle.std.specs.Results.{Cases};
 ghost use Rattle.memory.specs.Rows.{rowAt, areRows, numberOf};
 
+use crate::row_at;
+
 #[derive(Clone, Copy)]
 pub struct Rows<'a, C> {
     cells: &'a [C],
@@ -51,20 +53,10 @@ impl<'a, C> Rows<'a, C> {
         self.count
     }
 
-    pub fn columns(&self) -> usize
-        ensures { λ r. ⌜ r ≡ now (self .entry) .columns ⌝ }
-    {
-        self.columns
-    }
-
     // Row i; past the last row, no cells.
     pub fn row(&self, i: usize) -> &'a [C]
         ensures { λ r. ⌜ now r ≡ rowAt (now (self .entry) .columns) (now (now (self .entry) .cells)) i ⌝ }
     {
-        let len = self.cells.len();
-        let at = i.saturating_mul(self.columns);
-        let from = at.min(len);
-        let to = at.saturating_add(self.columns).min(len);
-        &self.cells[from..to]
+        row_at(self.cells, self.columns, i)
     }
 }

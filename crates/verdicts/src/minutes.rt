@@ -37,6 +37,7 @@ impl Minutes {
     pub fn seconds(self) -> u64
         ensures { λ r. ⌜ r ≡ 60 * self .count ⌝ }
     {
-        60 * self.count as u64
+        let Minutes { count } = self;
+        60 * count as u64
     }
 }

@@ -1,0 +1,67 @@
+// Tests of printing cells and rows (docs/RULES.md, "Lines of text").
+use crate::common::code;
+use cells::Full;
+use cells::FullDisplay;
+use cells::Place;
+use cells::PlaceDisplay;
+use lines::LineRefusal;
+use lines::LineRefusalDisplay;
+use lines::row_text;
+use std::alloc::AllocError;
+use std::alloc::Global;
+use std::test::*;
+
+const CELLS: [(Full, &str); 8] = [
+    (Full::Missing, ""),
+    (Full::YesNo(true), "yes"),
+    (Full::YesNo(false), "no"),
+    (Full::Number(0), "0"),
+    (Full::Number(-5), "-5"),
+    (Full::Number(999_999_999_999), "999999999999"),
+    (Full::Number(i64::MAX), "9223372036854775807"),
+    (Full::Number(i64::MIN), "-9223372036854775808"),
+];
+
+const PLACES: &[(Place, &str)] = &[
+    (Place::Missing, ""),
+    (Place::YesNo(true), "yes"),
+    (Place::YesNo(false), "no"),
+    (Place::Row(0), "0"),
+    (Place::Row(4095), "4095"),
+    (Place::Row(u32::MAX), "4294967295"),
+];
+
+#[test]
+fn cells_print(rt: LibcRuntime) -> Result<(), Fail> {
+    for (cell, want) in CELLS {
+        check(cell.to_string(rt.alloc())?.as_str() == want).note(want)?;
+    }
+    for &(place, want) in PLACES {
+        check(place.to_string(rt.alloc())?.as_str() == want).note(want)?;
+    }
+    for letters in ["A", "U2", "abba", "ABCDEFGH", "A1234567"] {
+        check(code(letters).to_string(rt.alloc())?.as_str() == letters).note(letters)?;
+    }
+    let mixed = format!(rt.alloc(), "<{}|{}>", code("ABBA"), Full::Missing)?;
+    check(mixed.as_str() == "<ABBA|>")
+}
+
+fn prints(heap: Global, row: &[Full], want: &str) -> Result<bool, AllocError> {
+    Ok(row_text(heap, row)?.as_str() == want)
+}
+
+#[test]
+fn rows_print(rt: LibcRuntime) -> Result<(), Fail> {
+    let heap = rt.alloc();
+    let yes = Full::YesNo(true);
+    let no = Full::YesNo(false);
+    let none = Full::Missing;
+    check(prints(heap, &[], "")?)?;
+    check(prints(heap, &[none], "")?)?;
+    check(prints(heap, &[none, none], ",")?)?;
+    check(prints(heap, &[none; 16], ",,,,,,,,,,,,,,,")?)?;
+    check(prints(heap, &[code("ABBA"), Full::Number(3000)], "ABBA,3000")?)?;
+    check(prints(heap, &[code("BLUR"), none], "BLUR,")?)?;
+    check(prints(heap, &[yes, none, Full::Number(-5), no], "yes,,-5,no")?)?;
+    check(prints(heap, &[Full::Number(i64::MIN), code("a")], "-9223372036854775808,a")?)
+}
