@@ -56,6 +56,7 @@ fn truths_and_minutes() -> Result<(), Fail> {
 }
 
 const LAST: i64 = i64::MAX;
+
 const FIRST: i64 = i64::MIN;
 
 // Minutes, artist and start on the left, artist and start on the right, and the verdict. No letters are a missing artist.
@@ -129,40 +130,50 @@ fn separations() -> Result<(), Fail> {
         let verdict = Separation::new(minutes, columns, columns);
         let left = [code(artist), number(start)];
         let right = [code(other), number(at)];
-        check(verdict.ask(&left, &right) == want)
-            .note(format_args!("{n} {artist:?} {other:?} {}", want == True))?;
+        check(verdict.ask(&left, &right) == want).note(format_args!(
+            "{n} {artist:?} {start:?} {other:?} {at:?}"
+        ))?;
     }
     Ok(())
 }
 
-// Rows with the song `A,0` in columns 1 and 3, or with something of it wrong, and the verdict on each beside a right one.
+// Whether a row with a song in columns 1 and 3 gets this verdict beside the song `A,0`, on either side, and none where no column exists.
+fn beside(row: &[Full], want: Truth) -> bool {
+    let Ok(minutes) = Minutes::new(40) else {
+        return false;
+    };
+    let four = SongColumns {
+        artist: 1,
+        start: 3,
+    };
+    let two = SongColumns {
+        artist: 1,
+        start: 0,
+    };
+    let nowhere = SongColumns {
+        artist: usize::MAX,
+        start: usize::MAX,
+    };
+    let song = [Number(0), code("A")];
+    let on_left = Separation::new(minutes, four, two).ask(row, &song);
+    let on_right = Separation::new(minutes, two, four).ask(&song, row);
+    let on_none = Separation::new(minutes, nowhere, nowhere).ask(row, row);
+    on_left == want && on_right == want && on_none == Absent
+}
+
 #[test]
 fn odd_rows() -> Result<(), Fail> {
-    let Ok(minutes) = Minutes::new(40) else {
-        return Err(Fail::new("minutes"));
-    };
     let a = code("A");
+    let b = code("B");
     let zero = Number(0);
-    let rows: [(&[Full], Truth); 11] = [
-        (&[Missing, a, Missing, zero], True),
-        (&[code("B"), a, Number(9000), zero, a, zero], True),
-        (&[Missing, a, Missing], Absent),
-        (&[Missing], Absent),
-        (&[], Absent),
-        (&[a, zero], Absent),
-        (&[Missing, zero, Missing, zero], Absent),
-        (&[Missing, a, Missing, a], Absent),
-        (&[Missing, YesNo(true), Missing, zero], Absent),
-        (&[Missing, a, Missing, YesNo(false)], Absent),
-        (&[Missing, code("B"), Missing], False),
-    ];
-    let four = SongColumns { artist: 1, start: 3 };
-    let two = SongColumns { artist: 1, start: 0 };
-    let nowhere = SongColumns { artist: usize::MAX, start: 16 };
-    for (i, (row, want)) in rows.iter().enumerate() {
-        check(Separation::new(minutes, four, two).ask(row, &[zero, a]) == *want).note(i)?;
-        check(Separation::new(minutes, two, four).ask(&[zero, a], row) == *want).note(i)?;
-        check(Separation::new(minutes, nowhere, nowhere).ask(row, row) == Absent).note(i)?;
-    }
-    Ok(())
+    let yes = YesNo(true);
+    check(beside(&[Missing, a, Missing, zero], True))?;
+    check(beside(&[b, a, Number(9000), zero, b, zero], True))?;
+    // a column that does not exist
+    check(beside(&[], Absent) && beside(&[Missing], Absent) && beside(&[a, zero], Absent))?;
+    check(beside(&[Missing, a, Missing], Absent) && beside(&[Missing, b, zero], False))?;
+    // a cell of another kind
+    check(beside(&[a, zero, a, zero], Absent) && beside(&[zero, a, zero, a], Absent))?;
+    check(beside(&[a, yes, a, zero], Absent) && beside(&[zero, a, zero, yes], Absent))?;
+    check(beside(&[zero, b, zero, b], False) && beside(&[a, yes, a, Number(2400)], False))
 }

@@ -7,6 +7,7 @@ use schedules::SongError;
 use schedules::SongErrorPartialEq;
 use schedules::find_gap;
 use schedules::read_songs;
+use std::alloc::Global;
 use std::test::*;
 
 // Texts, where their gap begins and ends, and how many lines stand before it.
@@ -32,70 +33,78 @@ const GAPS: &[(&str, usize, usize, usize)] = &[
 fn gaps() -> Result<(), Fail> {
     for &(text, end, next, lines) in GAPS {
         let gap = find_gap(text.as_bytes());
-        check(gap.end == end && gap.next == next && gap.lines == lines)
-            .note(format_args!("{text:?}"))?;
+        check(gap.end == end && gap.next == next && gap.lines == lines).note(format_args!(
+            "{text:?}"
+        ))?;
     }
     Ok(())
 }
 
-// Blocks without their names line.
-const NAMELESS: &[&str] = &[
-    "",
-    "\n",
-    "\nartist,start",
-    "artist,start\r\n",
-    "artist,start\r\nABBA,0\r\n",
-    "Artist,start",
-    "artist,Start\n",
-    "artist,start,",
-    "artist,start,\nABBA,0",
-    "artist, start",
-    "artist,start ",
-    " artist,start",
-    "artist;start",
-    "artist",
-    "artist,",
-    "artist,star",
-    "artist,starts",
-    "start,artist",
-    "\"artist\",\"start\"",
-    "ABBA,0\nartist,start",
+// A block in three parts, the middle one a song that comes so many times; then the cells and the lines passed by, or the error.
+const BLOCKS: &[(&str, usize, &str, Result<(usize, usize), SongError>)] = &[
+    ("artist,start", 0, "", Ok((0, 0))),
+    ("artist,start\n", 0, "", Ok((0, 0))),
+    ("artist,start\n", 0, "ABBA,1", Ok((2, 0))),
+    ("artist,start\n", 1, "", Ok((2, 0))),
+    ("artist,start\n", 0, ",\n,5\nA,", Ok((6, 0))),
+    ("artist,start\n", 0, "artist,start\n", Ok((2, 0))),
+    ("artist,start\n", 0, "\n", Ok((0, 1))),
+    ("artist,start\n\n\n", 1, "\n", Ok((2, 3))),
+    (
+        "artist,start\n",
+        0,
+        "ABBA,0\r\nABBA\nA,B,C\nX,01\n",
+        Ok((0, 4)),
+    ),
+    // 4,096 rows, and more
+    ("artist,start\n", 4095, "ABBA,1", Ok((8192, 0))),
+    ("artist,start\n", 4096, "", Ok((8192, 0))),
+    ("artist,start\n", 4096, "bad\n\n+,\n", Ok((8192, 3))),
+    ("artist,start\nbad\n", 4096, "", Ok((8192, 1))),
+    (
+        "artist,start\n",
+        4096,
+        "\nABBA,1",
+        Err(SongError::TooManyRows),
+    ),
+    ("artist,start\n", 4096, ",", Err(SongError::TooManyRows)),
+    ("artist,start\n", 4097, "", Err(SongError::TooManyRows)),
+    ("artist,start\n", 4097, "bad", Err(SongError::TooManyRows)),
+    // another names line, or none
+    ("", 0, "", Err(SongError::NoNames)),
+    ("", 4097, "", Err(SongError::NoNames)),
+    ("\n", 0, "", Err(SongError::NoNames)),
+    ("\nartist,start\n", 1, "", Err(SongError::NoNames)),
+    ("", 1, "artist,start\n", Err(SongError::NoNames)),
+    ("artist,start\r\n", 1, "", Err(SongError::NoNames)),
+    ("artist,start\r", 0, "", Err(SongError::NoNames)),
+    ("Artist,start\n", 1, "", Err(SongError::NoNames)),
+    ("artist,Start\n", 1, "", Err(SongError::NoNames)),
+    ("artist,start,\n", 1, "", Err(SongError::NoNames)),
+    ("artist, start\n", 1, "", Err(SongError::NoNames)),
+    ("artist,start \n", 1, "", Err(SongError::NoNames)),
+    (" artist,start\n", 1, "", Err(SongError::NoNames)),
+    ("artist;start\n", 1, "", Err(SongError::NoNames)),
+    ("artist\n", 1, "", Err(SongError::NoNames)),
+    ("artist,\n", 1, "", Err(SongError::NoNames)),
+    ("artist,star\n", 1, "", Err(SongError::NoNames)),
+    ("artist,starts\n", 1, "", Err(SongError::NoNames)),
+    ("start,artist\n", 1, "", Err(SongError::NoNames)),
+    ("\"artist\",\"start\"\n", 1, "", Err(SongError::NoNames)),
 ];
 
-// Blocks with their names line: the cells, the lines passed by, and the refusals' numbers added up.
-const NAMED: &[(&str, usize, usize, u64)] = &[
-    ("artist,start", 0, 0, 0),
-    ("artist,start\n", 0, 0, 0),
-    ("artist,start\nABBA,0", 2, 0, 0),
-    ("artist,start\nABBA,0\n", 2, 0, 0),
-    ("artist,start\n,\n,5\nA,", 6, 0, 0),
-    ("artist,start\nartist,start\n", 2, 0, 0),
-    ("artist,start\n\n", 0, 1, 17),
-    ("artist,start\n\n\nABBA,0\n\n", 2, 3, 51),
-    ("artist,start\nABBA,0\r\nABBA\nA,B,C\nX,01\n", 0, 4, 70),
-];
+fn counts_of(heap: Global, text: &[u8]) -> Result<(usize, usize), SongError> {
+    let songs = read_songs(heap, text)?;
+    Ok((songs.cells.len(), songs.passed.len()))
+}
 
 #[test]
-fn names_lines(rt: LibcRuntime) -> Result<(), Fail> {
-    for text in NAMELESS {
-        let right = match read_songs(rt.alloc(), text.as_bytes()) {
-            Ok(_) => false,
-            Err(error) => error == SongError::NoNames,
-        };
-        check(right).note(format_args!("{text:?}"))?;
-    }
-    for &(text, cells, passed, sum) in NAMED {
-        let right = match read_songs(rt.alloc(), text.as_bytes()) {
-            Ok(songs) => {
-                let mut total = 0u64;
-                for line in &songs.passed {
-                    total = total.wrapping_add(u64::from(line.refusal.number()));
-                }
-                songs.cells.len() == cells && songs.passed.len() == passed && total == sum
-            }
-            Err(_) => false,
-        };
-        check(right).note(format_args!("{text:?}"))?;
+fn songs(rt: LibcRuntime) -> Result<(), Fail> {
+    for &(head, times, tail, want) in BLOCKS {
+        let text = repeated(rt.alloc(), head, "ABBA,0\n", times, tail)?;
+        check(counts_of(rt.alloc(), text.as_slice()) == want).note(format_args!(
+            "{head:?} {times} {tail:?}"
+        ))?;
     }
     Ok(())
 }
@@ -106,7 +115,14 @@ const NOTED: &[(usize, u8)] = &[(1, 17), (3, 17), (4, 18), (6, 18), (7, 17)];
 #[test]
 fn noted_lines(rt: LibcRuntime) -> Result<(), Fail> {
     let text = b"artist,start\n\nABBA,0\nbad\nX,01\nY,\nZ,5\r\n\nU2,-5";
-    let cells = [code("ABBA"), Full::Number(0), code("Y"), Full::Missing, code("U2"), Full::Number(-5)];
+    let cells = [
+        code("ABBA"),
+        Full::Number(0),
+        code("Y"),
+        Full::Missing,
+        code("U2"),
+        Full::Number(-5),
+    ];
     match read_songs(rt.alloc(), text) {
         Ok(songs) => {
             check(songs.cells.as_slice() == &cells && songs.passed.len() == NOTED.len())?;
@@ -117,28 +133,4 @@ fn noted_lines(rt: LibcRuntime) -> Result<(), Fail> {
         }
         Err(_) => Err(Fail::new("no songs")),
     }
-}
-
-// How many rows a block has, what stands behind them, and the lines passed by where the rows are not too many.
-const SIZES: &[(usize, &str, Option<usize>)] = &[
-    (4095, "ABBA,1\n", Some(0)),
-    (4096, "", Some(0)),
-    (4096, "bad\n\n+,\n", Some(3)),
-    (4096, "\nABBA,1", None),
-    (4097, "", None),
-    (4097, "bad", None),
-];
-
-#[test]
-fn most_rows(rt: LibcRuntime) -> Result<(), Fail> {
-    for &(rows, tail, want) in SIZES {
-        let text = repeated(rt.alloc(), "artist,start\n", "ABBA,0\n", rows, tail)?;
-        let right = match (read_songs(rt.alloc(), text.as_slice()), want) {
-            (Ok(songs), Some(passed)) => songs.cells.len() == 8192 && songs.passed.len() == passed,
-            (Err(error), None) => error == SongError::TooManyRows,
-            _ => false,
-        };
-        check(right).note(format_args!("{rows} {tail:?}"))?;
-    }
-    Ok(())
 }

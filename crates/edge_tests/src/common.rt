@@ -8,6 +8,7 @@ use std::alloc::Global;
 
 // Answers of the row reader that are no refusals, beside the numbers 17 and 18.
 pub(crate) const ROW: u8 = 0;
+
 pub(crate) const END: u8 = 1;
 
 pub(crate) fn answer_number(answer: Result<Answer, LineRefusal>) -> u8 {

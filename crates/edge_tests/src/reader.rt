@@ -117,7 +117,14 @@ fn rows(rt: LibcRuntime) -> Result<(), Fail> {
     for &(text, at, columns, answer, after) in READS {
         let mut row = [OLD; 17];
         let n = columns.min(17);
-        let right = reads(rt.alloc(), text.as_bytes(), at, &mut row[0..n], answer, after)?;
+        let right = reads(
+            rt.alloc(),
+            text.as_bytes(),
+            at,
+            &mut row[0..n],
+            answer,
+            after,
+        )?;
         check(right).note(format_args!("{text:?} {at} {columns}"))?;
     }
     Ok(())
@@ -150,37 +157,44 @@ fn passed_lines() -> Result<(), Fail> {
     for &(text, at, end, after) in PASSES {
         let mut cursor = at;
         pass_line(text.as_bytes(), &mut cursor);
-        check(line_end(text.as_bytes(), at) == end && cursor == after)
-            .note(format_args!("{text:?} {at}"))?;
+        check(line_end(text.as_bytes(), at) == end && cursor == after).note(format_args!(
+            "{text:?} {at}"
+        ))?;
     }
     Ok(())
 }
 
-// One long line and a short one: the part, its number, the first line's answer for one, two and three columns.
-const LONG: &[(&str, usize, [u8; 3])] = &[
-    ("A", 5000, [17, 18, 17]),
-    ("7", 5000, [17, 18, 17]),
-    (",", 5000, [17, 17, 17]),
-    ("A,", 1, [17, 17, ROW]),
-    ("+,", 1, [17, 17, 18]),
+// A part that a long first line has many times, and the answers for one, two and three columns.
+const LONG: &[(&str, [u8; 3])] = &[
+    ("A", [17, 18, 17]),
+    ("7", [17, 18, 17]),
+    ("+", [17, 18, 17]),
+    (",", [17, 17, 17]),
 ];
 
 #[test]
 fn long_lines(rt: LibcRuntime) -> Result<(), Fail> {
-    for &(part, times, answers) in LONG {
-        let text = repeated(rt.alloc(), "", part, times, ",1\nB,2")?;
+    for &(part, answers) in LONG {
+        let text = repeated(rt.alloc(), "", part, 5000, ",1\nB,2")?;
         for (i, answer) in answers.iter().enumerate() {
             let mut row = [OLD; 3];
-            let mut cursor = 0;
-            let got = answer_number(read_row(text.as_slice(), &mut cursor, &mut row[0..i + 1]));
-            check(got == *answer && (got == ROW || cursor == 0 && untouched(&row))).note(part)?;
+            check(
+                reads(
+                    rt.alloc(),
+                    text.as_slice(),
+                    0,
+                    &mut row[0..i + 1],
+                    *answer,
+                    0,
+                )?,
+            ).note(part)?;
         }
         let mut cursor = 0;
         pass_line(text.as_slice(), &mut cursor);
         let mut row = [OLD; 2];
-        let at = cursor;
-        let right = reads(rt.alloc(), text.as_slice(), at, &mut row, ROW, text.len())?;
-        check(right && text.len() == at.saturating_add(3)).note(part)?;
+        check(
+            cursor == 5003 && reads(rt.alloc(), text.as_slice(), cursor, &mut row, ROW, 5006)?,
+        ).note(part)?;
     }
     Ok(())
 }
@@ -203,10 +217,11 @@ const WALK: &[(u8, usize, &str)] = &[
 fn next_lines(rt: LibcRuntime) -> Result<(), Fail> {
     let text = b"\nABBA,0\nbad\n+,1\nCR,1\r\n\n,\nZ,-5";
     let mut cursor = 0;
-    let mut row = [OLD; 2];
+    let mut cells = [OLD; 2];
+    let row = &mut cells[0..2];
     for &(answer, after, shown) in WALK {
-        let got = answer_number(next_line(text, &mut cursor, &mut row));
-        let printed = row_text(rt.alloc(), &row)?;
+        let got = answer_number(next_line(text, &mut cursor, row));
+        let printed = row_text(rt.alloc(), row)?;
         check(got == answer && cursor == after && printed.as_str() == shown).note(after)?;
     }
     Ok(())

@@ -73,7 +73,16 @@ const MALFORMED: &[&str] = &[
 ];
 
 // Bytes above 127 that would be letters or digits without their highest bit.
-const ABOVE: &[&[u8]] = &[b"\xC1", b"\xE1", b"\xB1", b"\xAD1", b"A\xC1", b"1\xB1", b"\xFF", b"\x80"];
+const ABOVE: &[&[u8]] = &[
+    b"\xC1",
+    b"\xE1",
+    b"\xB1",
+    b"\xAD1",
+    b"A\xC1",
+    b"1\xB1",
+    b"\xFF",
+    b"\x80",
+];
 
 #[test]
 fn numbers() -> Result<(), Fail> {
@@ -124,7 +133,18 @@ fn codes() -> Result<(), Fail> {
     for &(text, bits) in CODES {
         check(is_code(text.as_bytes(), bits)).note(text)?;
     }
-    for text in ["", "1", "1A", "9ABBA", "-1", "0", "ABCDEFGHI", "A-B", "A_B", "A\r"] {
+    for text in [
+        "",
+        "1",
+        "1A",
+        "9ABBA",
+        "-1",
+        "0",
+        "ABCDEFGHI",
+        "A-B",
+        "A_B",
+        "A\r",
+    ] {
         check(Code::new(text.as_bytes()) == None).note(text)?;
     }
     Ok(())

@@ -1,0 +1,17 @@
+pub mod Account
+pub mod Time
+pub mod Spots
+pub mod Bags
+pub mod Marks
+pub mod Future
+pub mod Whole
+pub mod Turns
+pub mod Order
+pub mod Notices
+pub mod Room
+pub mod Mirror
+pub mod Iso
+pub mod Cuts
+pub mod Tally
+pub mod All
+pub mod Kept
