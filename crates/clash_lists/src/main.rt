@@ -41,7 +41,7 @@ fn run(rt: &LibcRuntime) -> Result<(), AnyError> {
             print!(rt, "{text}")?;
             Ok(())
         }
-        Err(error) => Err(words(error).into()),
+        Err(error) => Err(words(rt, error)?),
     }
 }
 
@@ -81,22 +81,32 @@ fn minutes(rt: &LibcRuntime, text: &str) -> Result<Minutes, AnyError> {
     }
 }
 
-fn words(error: InputError) -> &'static str {
+// What is wrong with the input, and where.
+fn words(rt: &LibcRuntime, error: InputError) -> Result<AnyError, AnyError> {
     match error {
-        InputError::Schedule(SongError::NoNames) => {
-            "the schedule does not begin with the names line artist,start (line 1)"
-        }
-        InputError::Schedule(SongError::TooManyRows) => {
-            "the schedule is refused with 3: it has more than 4096 songs"
-        }
-        InputError::Log(SongError::NoNames) => {
-            "the log does not begin with the names line artist,start behind the first empty line"
-        }
-        InputError::Log(SongError::TooManyRows) => {
-            "the log is refused with 3: it has more than 4096 songs"
-        }
-        InputError::Schedule(SongError::NoMemory)
-        | InputError::Log(SongError::NoMemory)
-        | InputError::NoMemory => "there is not enough memory",
+        InputError::Schedule(error) => block_words(rt, "the schedule", "on line 1", error),
+        InputError::Log(error) => block_words(rt, "the log", "behind the first empty line", error),
+        InputError::NoMemory => Ok("there is not enough memory".into()),
     }
+}
+
+fn block_words(
+    rt: &LibcRuntime,
+    block: &str,
+    place: &str,
+    error: SongError,
+) -> Result<AnyError, AnyError> {
+    let told = match (error, error.number()) {
+        (SongError::TooManyRows, Some(number)) => {
+            format!(
+                rt.alloc(),
+                "{block} is refused with {number}: it has more than 4096 songs"
+            )?
+        }
+        (SongError::NoNames, _) => {
+            format!(rt.alloc(), "{block} has no names line artist,start {place}")?
+        }
+        _ => String::from_str(rt.alloc(), "there is not enough memory")?,
+    };
+    Ok(told.into())
 }

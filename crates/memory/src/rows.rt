@@ -5,7 +5,6 @@ ghost use Prim.Native.Nat.{_*_};
 ghost use lib.ListN.{length};
 ghost use Rattle.std.specs.Results.{Cases};
 ghost use Rattle.memory.specs.Rows.{rowAt, areRows, numberOf};
-
 use crate::row_at;
 
 #[derive(Clone, Copy)]

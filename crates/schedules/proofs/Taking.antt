@@ -69,17 +69,17 @@ taking-more text start s t at next index k h =
     record {
       rows = k .rows + length (rowOf i);
       cells =
-        ap (λ xs. xs ++ cellsOf (joined rowOf rest)) (h .2)
-        ∙ append-assoc (vec-items (s .cells)) (joined (λ x. x) (rowOf i)) (cellsOf (joined rowOf rest))
-        ∙ ap (λ xs. vec-items (s .cells) ++ xs) (sym (cells-of i rest))
-        ∙ ap (λ is. vec-items (s .cells) ++ cellsOf (joined rowOf is)) (sym (h .1))
-        ∙ k .cells;
+          ap (λ xs. xs ++ cellsOf (joined rowOf rest)) (h .2)
+          ∙ append-assoc (vec-items (s .cells)) (joined (λ x. x) (rowOf i)) (cellsOf (joined rowOf rest))
+          ∙ ap (λ xs. vec-items (s .cells) ++ xs) (sym (cells-of i rest))
+          ∙ ap (λ is. vec-items (s .cells) ++ cellsOf (joined rowOf is)) (sym (h .1))
+          ∙ k .cells;
       passed =
-        ap (λ xs. xs ++ passedFrom (index + 1) rest) (h .3)
-        ∙ append-assoc (vec-items (s .passed)) (passedFrom index (i ∷ [])) (passedFrom (index + 1) rest)
-        ∙ ap (λ xs. vec-items (s .passed) ++ xs) (sym (passed-of index i rest))
-        ∙ ap (λ is. vec-items (s .passed) ++ passedFrom index is) (sym (h .1))
-        ∙ k .passed;
+          ap (λ xs. xs ++ passedFrom (index + 1) rest) (h .3)
+          ∙ append-assoc (vec-items (s .passed)) (passedFrom index (i ∷ [])) (passedFrom (index + 1) rest)
+          ∙ ap (λ xs. vec-items (s .passed) ++ xs) (sym (passed-of index i rest))
+          ∙ ap (λ is. vec-items (s .passed) ++ passedFrom index is) (sym (h .1))
+          ∙ k .passed;
       even = omega (arith, ap length (h .2), length-append (vec-items (s .cells)) (joined (λ x. x) (rowOf i)), h .4, k .even);
       count = omega (arith, k .count, ap (λ is. length (joined rowOf is)) (h .1));
       few = few;

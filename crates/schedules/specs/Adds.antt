@@ -4,6 +4,8 @@ use mathlib.Core.Bool.{Bool, true, false}
 use mathlib.Core.List.{List, [], _∷_, _++_}
 use Prim.Native.Nat.{ℕ, _*_, _<_, _≤_}
 use lib.ListN.{length, drop}
+use Rattle.std.specs.declared.option.Option.{Option}
+use Rattle.std.specs.declared.option.Option.the-variants.{Some, None}
 use Rattle.std.specs.declared.result.Result.{Result}
 use Rattle.std.specs.declared.result.Result.the-variants.{Ok, Err}
 use Rattle.std.specs.Of.Vec.{vec-items}
@@ -46,3 +48,9 @@ Took text at index s (Ok false) t next = (items 2 (drop at text) ≡ []) × (t �
 Took text at index s (Err NoNames) t next = ⊥
 Took text at index s (Err TooManyRows) t next = (r : List Full) × (items 2 (drop at text) ≡ good r ∷ items 2 (drop next text)) × (8192 ≤ length (vec-items (s .cells)))
 Took text at index s (Err NoMemory) t next = Unit {0}
+
+-- the number by which a refusal goes, where it has one
+abbrev pub numberOf : SongError → Option ℕ
+numberOf NoNames = None
+numberOf TooManyRows = Some 3
+numberOf NoMemory = None

@@ -4,7 +4,7 @@ ghost use mathlib.Core.List.{[], _∷_, _++_};
 ghost use Prim.Native.Nat.{_+_, _≤_, _<_};
 ghost use lib.ListN.{length};
 ghost use Rattle.std.specs.Of.Vec.{vec-items, vec-len};
-ghost use Rattle.schedules.specs.Adds.{Added, Noted};
+ghost use Rattle.schedules.specs.Adds.{Added, Noted, numberOf};
 ghost use Rattle.schedules.specs.declared.songs.SongError.the-variants.{NoMemory};
 use cells::Full;
 use lines::LineRefusal;
@@ -31,6 +31,18 @@ pub enum SongError {
     NoNames,
     TooManyRows,
     NoMemory,
+}
+
+impl SongError {
+    // The number of the refusal, where it has one.
+    pub fn number(self) -> Option<u8>
+        ensures { λ r. ⌜ r ≡ numberOf self ⌝ }
+    {
+        match self {
+            SongError::TooManyRows => Some(3),
+            SongError::NoNames | SongError::NoMemory => None,
+        }
+    }
 }
 
 pub impl From<AllocError> for SongError as SongErrorFromAlloc {

@@ -37,7 +37,8 @@ pub impl<'a, V: Verdict<Cell = Full>> Verdict for ByPlace<'a, V> as ByPlaceVerdi
     ghost says = { λ p l r. V·Verdict .says (p .verdict) (placed (p .left .columns) (now (p .left .cells)) l) (placed (p .right .columns) (now (p .right .cells)) r) };
 
     fn ask(&self, left: &[Place], right: &[Place]) -> Truth {
-        self.verdict.ask(row_of(&self.left, left), row_of(&self.right, right))
+        self.verdict
+            .ask(row_of(&self.left, left), row_of(&self.right, right))
     }
 }
 
