@@ -11,6 +11,9 @@ ghost use Rattle.cells.specs.Codes.{isCode, letters, packed};
 // What the highest of the eight bytes counts.
 const TOP: u64 = 0x0100_0000_0000_0000;
 
+// Room for the letters of any code.
+pub type CodeBytes = [u8; 8];
+
 // The first letter in the highest byte, the unused low bytes zero.
 #[derive(Clone, Copy, PartialEq)]
 pub struct Code {
@@ -65,7 +68,7 @@ impl Code {
     }
 
     // Puts the letters at the front of `out`, and answers how many there are.
-    pub fn write(self, out: &mut [u8; 8]) -> usize
+    pub fn write(self, out: &mut CodeBytes) -> usize
         ensures count { λ r. ⌜ r ≡ length (letters (self .bits)) ⌝ }
         ensures few { λ r. ⌜ r ≤ 8 ⌝ }
         ensures bytes { λ r. ⌜ now (out .exit) ≡ letters (self .bits) ++ drop r (now (out .entry)) ⌝ }

@@ -10,6 +10,7 @@ mod full;
 mod place;
 
 pub use code::Code;
+pub use code::CodeBytes;
 pub use code::CodePartialEq;
 pub use display::CodeDisplay;
 pub use display::FullDisplay;

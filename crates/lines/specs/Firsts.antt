@@ -13,6 +13,6 @@ isFigure b = asciiDigit b || eqb b 45
 
 -- a letter begins a code, a digit or minus a number, and nothing else begins a cell
 abbrev pub Begins : First → ℕ → Type 0
-Begins Letter b = asciiLetter b ≡ true
-Begins Figure b = isFigure b ≡ true
-Begins Other b = (asciiLetter b ≡ false) × (isFigure b ≡ false)
+Begins Letter x = asciiLetter x ≡ true
+Begins Figure x = isFigure x ≡ true
+Begins Other x = (asciiLetter x ≡ false) × (isFigure x ≡ false)
