@@ -8,11 +8,11 @@ use native.Mathlib.Nat.{suc-mul, zero-mul, mul-zero, add-mul, mul-le-mul-right}
 use native.Mathlib.Omega.{arith}
 use borrow.Rule.Slice.PartMut.{putMid}
 use lib.Dec.{leb}
-use lib.ListN.{length, take, drop, set, getD, length-drop}
+use lib.ListN.{length, take, drop, set, getD, length-append, length-take, length-drop}
 use lib.Seq.{paste}
 use Rattle.std.proofs.shelf.Edits.{paste-more, paste-all}
 use Rattle.std.proofs.shelf.Lists.{drop-take, drop-drop, take-at, drop-at, take-append-le, take-take, length-take-le, getD-map, length-map}
-use Rattle.std.proofs.shelf.Parts.{between-is}
+use Rattle.std.proofs.shelf.Parts.{between-is, drop-putMid}
 use Rattle.std.proofs.shelf.Tests.{cases-lt, cases-bool, cond-true, cond-false, leb-true, leb-false, le-leb, lt-leb, and-from}
 use Rattle.memory.specs.Rows.{rowAt, rowsFrom, putRow}
 
@@ -66,6 +66,19 @@ module _ {C : Type 0} where
   -- a part of a page that was written over
   pub putMid-row : (a k : ℕ) (xs ys row : List C) → ys ≡ row → length row ≡ k → putMid a k xs ys ≡ putRow xs a row
   putMid-row a k xs ys row e h = let d = drop-drop k a xs in cc
+
+  -- a row written over a part of a page leaves its length, and what lies before and behind
+  module _ (at : ℕ) (xs row : List C) (fit : at + length row ≤ length xs) where
+    pub length-putRow : length (putRow xs at row) ≡ length xs
+    length-putRow = simp (length-append, length-take, length-drop) (omega arith)
+
+    pub take-putRow : (k : ℕ) → k ≤ at → take k (putRow xs at row) ≡ take k xs
+    take-putRow k h =
+        let l : length (take at xs) ≡ at = length-take-le at xs (omega arith) in
+        take-append-le k (take at xs) (row ++ drop (at + length row) xs) (omega arith) ∙ take-take k at xs h
+
+    pub drop-putRow : (k : ℕ) → at + length row ≤ k → drop k (putRow xs at row) ≡ drop k xs
+    drop-putRow k h = ap (drop k) (sym (putMid-row at (length row) xs row row refl refl)) ∙ drop-putMid at (length row) xs row k h (omega arith) refl
 
   -- a row that is made from a list, and written cell by cell
   module _ {X : Type 0} (f : X → C) (cs : List X) (d : List C) (at i : ℕ) (t : List C) (so-far : t ≡ paste d at (map f cs) i) where
