@@ -16,7 +16,7 @@ pub fn has_room(cells: usize, rows: usize, width: usize) -> bool
     }
 }
 
-// Whether so many cells have room for some behind a place.
+// Whether so many cells have room for `more` of them from a place on.
 pub(crate) fn fits(cells: usize, at: usize, more: usize) -> bool
     ensures { λ r. ⌜ r ≡ leb (at + more) cells ⌝ }
 {
