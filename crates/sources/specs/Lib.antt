@@ -1,0 +1,5 @@
+pub mod Refusals
+pub mod Fits
+pub mod Asked
+pub mod Cuts
+pub mod Fitting
