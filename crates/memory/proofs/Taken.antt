@@ -7,8 +7,9 @@ use native.Mathlib.Omega.{arith}
 use lib.ListN.{length, take, drop, length-take, length-drop}
 use lib.Seq.{take-add}
 use Rattle.std.specs.shelf.Lists.{All}
-use Rattle.std.proofs.shelf.Lists.{drop-drop}
+use Rattle.std.proofs.shelf.Lists.{drop-drop, drop-take, take-take}
 use Rattle.memory.specs.Rows.{rowsFrom, cellsOf}
+use Rattle.memory.proofs.Cuts.{length-cells, rows-back}
 
 module _ {C : Type 0} where
   -- where the memory is long enough, each row is whole
@@ -48,3 +49,21 @@ module _ {C : Type 0} where
       ∙ ap (λ ys. rowsFrom (n - min n k) w ys) (drop-drop (min n k * w) w xs ∙ ap (λ j. drop j xs) s)
       ∙ ap (λ j. rowsFrom j w (drop (suc (min n k) * w) xs)) left
       ∙ ap (λ j. rowsFrom (suc n - j) w (drop (j * w) xs)) m
+
+  -- rows lie in the first cells alone
+  rows-of-front : (n w : ℕ) (xs : List C) → rowsFrom n w (take (n * w) xs) ≡ rowsFrom n w xs
+  rows-of-front zero w xs = refl
+  rows-of-front (suc n) w xs =
+      let s : suc n * w ≡ w + n * w = omega (arith, suc-mul n w) in
+      ap (λ k. rowsFrom (suc n) w (take k xs)) s
+      ∙ ap (λ r. r ∷ rowsFrom n w (drop w (take (w + n * w) xs))) (take-take w (w + n * w) xs (omega arith))
+      ∙ ap (λ ys. take w xs ∷ rowsFrom n w ys) (drop-take w (n * w) xs)
+      ∙ ap (λ rs. take w xs ∷ rs) (rows-of-front n w (drop w xs))
+
+  -- rows whose cells stand at the front of a page are read back from it
+  pub rows-on-page : (w : ℕ) (rows : List (List C)) (page : List C) → All (λ r. length r ≡ w) rows → take (length (cellsOf rows)) page ≡ cellsOf rows → rowsFrom (length rows) w page ≡ rows
+  rows-on-page w rows page wide stand =
+      sym (rows-of-front (length rows) w page)
+      ∙ ap (λ k. rowsFrom (length rows) w (take k page)) (sym (length-cells w rows wide))
+      ∙ ap (rowsFrom (length rows) w) stand
+      ∙ rows-back w rows wide

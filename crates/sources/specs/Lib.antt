@@ -2,4 +2,5 @@ pub mod Refusals
 pub mod Fits
 pub mod Asked
 pub mod Cuts
+pub mod Present
 pub mod Fitting

@@ -1,5 +1,6 @@
 // What a source answers, and why it refuses to be asked.
 ghost use mathlib.Core.Path.{_≡_};
+ghost use Rattle.sources.specs.Present.{deeper};
 ghost use Rattle.sources.specs.Refusals.{askNumber};
 
 // A fault of a source: its cause, and how many layers it came through.
@@ -7,6 +8,18 @@ ghost use Rattle.sources.specs.Refusals.{askNumber};
 pub struct Fault {
     pub cause: u8,
     pub depth: u8,
+}
+
+impl Fault {
+    // The fault as a layer passes it on: one deeper, at most 255.
+    pub fn deeper(self) -> Fault
+        ensures { λ r. ⌜ r ≡ record { cause = self .cause; depth = deeper (self .depth) } ⌝ }
+    {
+        Fault {
+            cause: self.cause,
+            depth: self.depth.saturating_add(1),
+        }
+    }
 }
 
 // The rows of a batch stand at the front of the page that the source was asked with.
