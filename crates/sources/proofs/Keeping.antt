@@ -75,18 +75,18 @@ module _ {C : Type 0} where
         let gap : k * w + w + (i * w - k * w) ≡ (i + 1) * w = omega (arith, one-row-more i w) in
         record {
           front = ap (take ((k + 1) * w)) made
-          ∙ ap (λ j. take j (paste page (k * w) behind w)) (sym end)
-          ∙ take-paste page (k * w) behind w (omega arith) long-behind
-          ∙ ap (λ a. a ++ row) (h .front)
-          ∙ joined-more (λ r. r) [] before row
-          ∙ ap cellsOf (sym e);
+              ∙ ap (λ j. take j (paste page (k * w) behind w)) (sym end)
+              ∙ take-paste page (k * w) behind w (omega arith) long-behind
+              ∙ ap (λ a. a ++ row) (h .front)
+              ∙ joined-more (λ r. r) [] before row
+              ∙ ap cellsOf (sym e);
           rest = ap (drop ((i + 1) * w)) made
-          ∙ ap (λ j. drop j (paste page (k * w) behind w)) (sym gap)
-          ∙ sym (drop-drop (i * w - k * w) (k * w + w) (paste page (k * w) behind w))
-          ∙ ap (drop (i * w - k * w)) (drop-paste page (k * w) behind w (omega arith) long-behind)
-          ∙ drop-drop (i * w - k * w) (k * w + w) page
-          ∙ ap (λ j. drop j page) gap
-          ∙ rest-more;
+              ∙ ap (λ j. drop j (paste page (k * w) behind w)) (sym gap)
+              ∙ sym (drop-drop (i * w - k * w) (k * w + w) (paste page (k * w) behind w))
+              ∙ ap (drop (i * w - k * w)) (drop-paste page (k * w) behind w (omega arith) long-behind)
+              ∙ drop-drop (i * w - k * w) (k * w + w) page
+              ∙ ap (λ j. drop j page) gap
+              ∙ rest-more;
           count = ap (λ j. j + 1) (h .count) ∙ sym (ap length e ∙ length-append before (row ∷ []));
           behind = omega (arith, h .behind);
         }

@@ -31,8 +31,14 @@ module _ {C : Type 0} (most w n : ℕ) (items items′ : List (Item C)) (page : 
   pub batch-rows : rowsFrom n w page ≡ taken .0
   batch-rows = ap (λ k. rowsFrom k w page) (taken .2) ∙ rows-on-page w (taken .0) page (first-fits .1) (taken .3)
 
+  -- its cells, read from the page
+  pub batch-cells : take (n * w) page ≡ cellsOf (taken .0)
+  batch-cells =
+      let size : n * w ≡ length (cellsOf (taken .0)) = ap (λ k. k * w) (taken .2) ∙ sym (length-cells w (taken .0) (first-fits .1)) in
+      ap (λ k. take k page) size ∙ taken .3
+
   pub layer-batch : (isMissing : C → Bool) (column k : ℕ) (page′ : List C) → k ≡ length (kept-by (hasCell isMissing column) (rowsFrom n w page)) → take (k * w) page′ ≡ cellsOf (kept-by (hasCell isMissing column) (rowsFrom n w page)) →
-    Taken (map (present isMissing column) items) (map (present isMissing column) items′) page′ (Batch k)
+      Taken (map (present isMissing column) items) (map (present isMissing column) items′) page′ (Batch k)
   layer-batch isMissing column k page′ count front =
       let keep : List C → Bool = hasCell isMissing column in
       let rows : List (List C) = taken .0 in

@@ -4,3 +4,5 @@ pub mod Asked
 pub mod Cuts
 pub mod Present
 pub mod Fitting
+pub mod DrainRefusals
+pub mod Drained

@@ -16,7 +16,12 @@ fn has_cell<C: Cell>(row: &[C], column: usize) -> bool
 }
 
 // Moves the rows that have a cell in a column to the front of the page, in order, and counts them.
-pub(crate) fn keep_rows<C: Cell>(page: &mut [C], columns: usize, rows: usize, column: usize) -> usize
+pub(crate) fn keep_rows<C: Cell>(
+    page: &mut [C],
+    columns: usize,
+    rows: usize,
+    column: usize,
+) -> usize
     requires { ⌜ rows * columns ≤ length (now page) ⌝ }
     ensures count { λ r. ⌜ r ≡ length (kept-by (hasCell (C·Cell .isMissing) column) (rowsFrom rows columns (now (page .entry)))) ⌝ }
     ensures front { λ r. ⌜ take (r * columns) (now (page .exit)) ≡ cellsOf (kept-by (hasCell (C·Cell .isMissing) column) (rowsFrom rows columns (now (page .entry)))) ⌝ }

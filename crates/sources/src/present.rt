@@ -53,12 +53,14 @@ pub impl<S: Source> Source for Present<S> as PresentSource {
     fn ask(&mut self, page: &mut [S::Cell]) -> Result<SourceAnswer, SourceRefusal> {
         let columns = self.inner.columns();
         let answer = self.inner.ask(page)?;
-        Ok(match answer {
-            SourceAnswer::Batch(rows) => {
-                SourceAnswer::Batch(keep_rows(page, columns, rows, self.column))
-            }
-            SourceAnswer::Fault(fault) => SourceAnswer::Fault(fault.deeper()),
-            SourceAnswer::Wait | SourceAnswer::End => answer,
-        })
+        Ok(
+            match answer {
+                SourceAnswer::Batch(rows) => {
+                    SourceAnswer::Batch(keep_rows(page, columns, rows, self.column))
+                }
+                SourceAnswer::Fault(fault) => SourceAnswer::Fault(fault.deeper()),
+                SourceAnswer::Wait | SourceAnswer::End => answer,
+            },
+        )
     }
 }

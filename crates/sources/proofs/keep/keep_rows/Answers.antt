@@ -40,14 +40,14 @@ loop-i-again g c =
     let long : length page ≡ length (a .page .now) = omega arith in
     let told = sym (ap p (c .row-at .ensures)) ∙ sym (c .has-cell .ensures) in
     elim (c .if-has-cell .came) [
-      then-has-cell w ↦
-        let part : i * a .columns + a .columns - i * a .columns ≡ a .columns = omega arith in
-        rw (w .page-is, w .count-is)
-        (kept-yes p (a .columns) (a .rows) (a .page .now) page (c .loop-i .count) i (c .loop-i .inv) lt (omega arith) long _ (told ∙ w .if-has-cell .taken)
+      | then-has-cell w ↦
+          let part : i * a .columns + a .columns - i * a .columns ≡ a .columns = omega arith in
+          rw (w .page-is, w .count-is)
+          (kept-yes p (a .columns) (a .rows) (a .page .now) page (c .loop-i .count) i (c .loop-i .inv) lt (omega arith) long _ (told ∙ w .if-has-cell .taken)
           (w .copy-within .ensures .after ∙ ap (λ n. paste page (c .loop-i .count * a .columns) (drop (i * a .columns) page) n) part))
-    | else-has-cell w ↦
-        rw (w .page-is, w .count-is)
-        (kept-no p (a .columns) (a .rows) (a .page .now) page (c .loop-i .count) i (c .loop-i .inv) lt (omega arith) long (told ∙ w .if-has-cell .left))
+      | else-has-cell w ↦
+          rw (w .page-is, w .count-is)
+          (kept-no p (a .columns) (a .rows) (a .page .now) page (c .loop-i .count) i (c .loop-i .inv) lt (omega arith) long (told ∙ w .if-has-cell .left))
     ]
 
 pub returns : need.returns
