@@ -1,3 +1,4 @@
 pub mod Cuts
-pub mod Pages
 pub mod Marking
+pub mod Pages
+pub mod Taken

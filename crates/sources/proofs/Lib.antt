@@ -1,0 +1,5 @@
+pub mod Tables
+pub mod Keeping
+pub mod Layers
+pub mod Adding
+pub mod Turns

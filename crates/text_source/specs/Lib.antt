@@ -1,0 +1,5 @@
+pub mod Columns
+pub mod Refusals
+pub mod Grouped
+pub mod Fills
+pub mod Fitting
