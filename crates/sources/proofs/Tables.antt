@@ -10,7 +10,7 @@ use lib.Seq.{take-add}
 use Rattle.std.proofs.shelf.Bits.{div-add-mod', mod-below}
 use Rattle.std.proofs.shelf.Lists.{length-drop, length-take, take-all, take-at}
 use Rattle.std.proofs.shelf.Tests.{cases-eq, cases-lt}
-use Rattle.memory.specs.Items.{Item, batch}
+use Rattle.memory.specs.Items.{batch}
 use Rattle.memory.specs.Rows.{rowsFrom, cellsOf}
 use Rattle.memory.proofs.Cuts.{length-rowsFrom}
 use Rattle.memory.proofs.Taken.{take-rowsFrom, drop-rowsFrom, cells-rowsFrom}
@@ -39,6 +39,14 @@ parts-more n c p q =
     omega arith)
     (cases-lt n c)
 
+-- where there are parts, there are rows
+some-parts : (n c k : ℕ) → 0 < c → suc k ≡ parts n c → 0 < n
+some-parts n c k p e = ⊎-elim (λ (z : n ≡ 0). let none = ap (λ m. parts m c) z ∙ parts-none c p in absurd (omega arith)) (λ (z : n ≡ 0 → ⊥). omega arith) (cases-eq n 0)
+
+-- the parts suffice
+parts-enough : (n c : ℕ) → 0 < c → n ≤ parts n c * c
+parts-enough n c p = omega (arith, div-add-mod' (n + (c - 1)) c, mod-below (n + (c - 1)) c p)
+
 module _ {C : Type 0} where
   pub batches-more : (c : ℕ) (rows : List (List C)) → 0 < c → 0 < length rows → batchesOf c rows ≡ batch (take c rows) ∷ batchesOf c (drop c rows)
   batches-more c rows p q =
@@ -65,14 +73,6 @@ module _ {C : Type 0} where
   pub ended : (c n w : ℕ) (cells : List C) → 0 < c → n ≡ 0 → batchesOf c (rowsFrom n w cells) ≡ []
   ended c n w cells p e =
       ap (λ k. batchesOf c (rowsFrom k w cells)) e ∙ ap (λ k. map batch (cutBy {X = List C} (replicate k c) [])) (parts-none c p)
-
--- where there are parts, there are rows
-some-parts : (n c k : ℕ) → 0 < c → suc k ≡ parts n c → 0 < n
-some-parts n c k p e = ⊎-elim (λ (z : n ≡ 0). let none = ap (λ m. parts m c) z ∙ parts-none c p in absurd (omega arith)) (λ (z : n ≡ 0 → ⊥). omega arith) (cases-eq n 0)
-
--- the parts suffice
-parts-enough : (n c : ℕ) → 0 < c → n ≤ parts n c * c
-parts-enough n c p = omega (arith, div-add-mod' (n + (c - 1)) c, mod-below (n + (c - 1)) c p)
 
 module _ {C : Type 0} where
   rows-cut : (k c : ℕ) (rows : List (List C)) → rowsOf (map batch (cutBy (replicate k c) rows)) ≡ take (k * c) rows
