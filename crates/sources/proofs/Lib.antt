@@ -3,3 +3,5 @@ pub mod Keeping
 pub mod Layers
 pub mod Adding
 pub mod Turns
+pub mod Piled
+pub mod Piling

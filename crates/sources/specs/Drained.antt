@@ -2,7 +2,7 @@
 use mathlib.Core.Path.{_≡_}
 use mathlib.Core.Bool.{Bool, true, false}
 use mathlib.Core.List.{List, [], _∷_, _++_}
-use Prim.Native.Nat.{ℕ, suc, min, _+_, _-_, _^_, _<_, _≤_}
+use Prim.Native.Nat.{ℕ, min, _-_, _^_, _<_, _≤_}
 use lib.ListN.{length}
 use Rattle.std.specs.declared.result.Result.{Result}
 use Rattle.std.specs.declared.result.Result.the-variants.{Ok, Err}
@@ -21,17 +21,19 @@ rowsOf (batch rows ∷ items) = rows ++ rowsOf items
 rowsOf (wait ∷ items) = rowsOf items
 rowsOf (fault cause depth ∷ items) = rowsOf items
 
--- the sorts of items
+-- the item is a batch
 abbrev pub isBatchItem : {C : Type 0} → Item C → Bool
 isBatchItem (batch rows) = true
 isBatchItem wait = false
 isBatchItem (fault cause depth) = false
 
+-- the item is a wait
 abbrev pub isWaitItem : {C : Type 0} → Item C → Bool
 isWaitItem (batch rows) = false
 isWaitItem wait = true
 isWaitItem (fault cause depth) = false
 
+-- the item is a fault
 abbrev pub isFaultItem : {C : Type 0} → Item C → Bool
 isFaultItem (batch rows) = false
 isFaultItem wait = false

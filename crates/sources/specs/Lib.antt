@@ -6,3 +6,6 @@ pub mod Present
 pub mod Fitting
 pub mod DrainRefusals
 pub mod Drained
+pub mod Piles
+pub mod Laws
+pub mod Tables

@@ -1,5 +1,5 @@
 -- The layer that keeps the rows with a cell in a column.
-use mathlib.Core.Bool.{Bool, true, false, not}
+use mathlib.Core.Bool.{Bool, false, not}
 use mathlib.Core.List.{List, [], _∷_}
 use Prim.Native.Nat.{ℕ, zero, suc, min, _+_}
 use Rattle.std.specs.shelf.Lists.{kept-by}

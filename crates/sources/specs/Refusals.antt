@@ -23,6 +23,6 @@ abbrev pub isBatch : ℕ → Bool
 isBatch n = leb 1 n && leb n 1024
 
 -- why so many cells, columns and rows to a batch make no table source; the smaller number first
-abbrev pub Refuses : (cells columns length : ℕ) → TableRefusal → Type 0
-Refuses cells columns length BatchLength = isBatch length ≡ false
-Refuses cells columns length NotWholeRows = (isBatch length ≡ true) × (areRows columns cells ≡ false)
+abbrev pub Refuses : (cells columns batch : ℕ) → TableRefusal → Type 0
+Refuses cells columns batch BatchLength = isBatch batch ≡ false
+Refuses cells columns batch NotWholeRows = (isBatch batch ≡ true) × (areRows columns cells ≡ false)

@@ -1,6 +1,5 @@
 // What a source brought, item by item.
 ghost use mathlib.Core.Path.{_≡_};
-ghost use Rattle.std.specs.Of.Vec.{vec-items};
 ghost use Rattle.sources.specs.declared.drained.DrainError.the-variants.{PageTooShort, NoMemory};
 ghost use Rattle.sources.specs.DrainRefusals.{drainNumber};
 use crate::SourceRefusal;

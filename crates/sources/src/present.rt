@@ -51,16 +51,16 @@ pub impl<S: Source> Source for Present<S> as PresentSource {
     }
 
     fn ask(&mut self, page: &mut [S::Cell]) -> Result<SourceAnswer, SourceRefusal> {
-        let columns = self.inner.columns();
+        let columns = self.columns();
         let answer = self.inner.ask(page)?;
-        Ok(
-            match answer {
-                SourceAnswer::Batch(rows) => {
-                    SourceAnswer::Batch(keep_rows(page, columns, rows, self.column))
-                }
-                SourceAnswer::Fault(fault) => SourceAnswer::Fault(fault.deeper()),
-                SourceAnswer::Wait | SourceAnswer::End => answer,
-            },
-        )
+        match answer {
+            SourceAnswer::Batch(rows) => {
+                let count = keep_rows(page, columns, rows, self.column);
+                Ok(SourceAnswer::Batch(count))
+            }
+            SourceAnswer::Wait => Ok(SourceAnswer::Wait),
+            SourceAnswer::Fault(fault) => Ok(SourceAnswer::Fault(fault.deeper())),
+            SourceAnswer::End => Ok(SourceAnswer::End),
+        }
     }
 }

@@ -1,6 +1,5 @@
 // The table source: rows in lent memory, in batches of one length.
 ghost use mathlib.Core.Path.{_≡_};
-ghost use mathlib.Core.List.{List};
 ghost use Prim.Native.Nat.{min, _*_, _/_, _≤_};
 ghost use lib.ListN.{length};
 ghost use lib.Dec.{lit≤};
@@ -66,16 +65,16 @@ pub impl<'a, C: Cell> Source for TableSource<'a, C> as TableSourceSource {
     }
 
     fn ask(&mut self, page: &mut [C]) -> Result<SourceAnswer, SourceRefusal> {
-        let columns = self.shape.columns;
+        let TableShape { columns, batch, .. } = self.shape;
         if page.len() < LARGEST * columns {
             return Err(SourceRefusal::PageTooShort);
         }
         if self.rows == 0 {
             return Ok(SourceAnswer::End);
         }
-        let count = self.rows.min(self.shape.batch);
-        let (batch, rest) = self.cells.split_at(count * columns);
-        page[0..batch.len()].copy_from_slice(batch);
+        let count = self.rows.min(batch);
+        let (front, rest) = self.cells.split_at(count * columns);
+        page[0..front.len()].copy_from_slice(front);
         self.cells = rest;
         self.rows -= count;
         Ok(SourceAnswer::Batch(count))

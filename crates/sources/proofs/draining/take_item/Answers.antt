@@ -1,11 +1,8 @@
-use mathlib.Core.Path.{_≡_, refl, sym, ap, _∙_}
+use mathlib.Core.Path.{_≡_, refl, ap}
 use Prim.Native.Nat.{_-_, _*_, _≤_}
 use native.Mathlib.Omega.{arith}
 use lib.ListN.{length, take}
-use Rattle.std.specs.Of.Vec.{vec-items}
-use Rattle.std.proofs.shelf.Parts.{pushed}
-use Rattle.memory.specs.Items.{batch, wait, fault}
-use Rattle.memory.specs.Rows.{cellsOf}
+use Rattle.memory.specs.Items.{wait, fault}
 use Rattle.sources.proofs.Layers.{batch-room}
 use Rattle.sources.proofs.Adding.{took-batch, brought-wait, brought-fault}
 use Rattle.sources.proofs.draining.take_item.Needs as need

@@ -1,8 +1,7 @@
-use Prim.Native.Nat.{_+_, _*_, _-_, _≤_}
+use Prim.Native.Nat.{_+_, _*_, _-_}
 use mathlib.Core.Path.{_≡_, refl, sym, ap, _∙_}
 use native.Mathlib.Omega.{arith}
 use native.Mathlib.Nat.{mul-le-mul-right, add-mul}
-use lib.ListN.{length}
 use Rattle.sources.proofs.Tables.{served, ended}
 use Rattle.sources.proofs.table.TableSourceSource.ask.Needs as need
 
