@@ -71,7 +71,7 @@ pub impl<'a> Source for TextSource<'a> as TextSourceSource {
     }
 
     fn ask(&mut self, page: &mut [Full]) -> Result<SourceAnswer, SourceRefusal> {
-        let columns = self.columns.count;
+        let TextColumns { count: columns } = self.columns;
         if page.len() < LARGEST * columns {
             return Err(SourceRefusal::PageTooShort);
         }
