@@ -11,6 +11,7 @@ use Rattle.verdicts.specs.declared.separation.SongColumns.{SongColumns}
 use Rattle.verdicts.specs.Separations.{separation}
 use Rattle.schedules.specs.Blocks.{firstBlock, secondBlock, goodRows}
 use Rattle.schedules.specs.Reads.{ReadSongs}
+use Rattle.schedules.specs.declared.songs.Songs.{Songs}
 use Rattle.clashes.specs.declared.answer.ClashLists.{ClashLists}
 use Rattle.clashes.specs.declared.answer.InputError.{InputError}
 use Rattle.clashes.specs.declared.answer.InputError.the-variants.{Schedule, Log, NoMemory}
@@ -37,7 +38,7 @@ pub record Compared (planned aired : List (List Full)) (m n : ℕ) (c : Lists) :
 abbrev pub songsOf : List (List ℕ) → List (List Full)
 songsOf ls = goodRows (drop 1 ls)
 
--- the lists of a text: the schedule before the first empty line, the log behind it
+-- the lists of a text: the schedule before the first empty line, the log behind it; the log is told as wrong only where the schedule is not
 abbrev pub Listed : List (List ℕ) → ℕ → ℕ → Result ClashLists InputError → Type 0
 Listed ls m n (Ok c) =
     ReadSongs (firstBlock ls) (Ok (c .schedule))
@@ -45,5 +46,5 @@ Listed ls m n (Ok c) =
     × (c .«lines_before_gap» ≡ length (firstBlock ls))
     × Compared (songsOf (firstBlock ls)) (songsOf (secondBlock ls)) m n (c .lists)
 Listed ls m n (Err (Schedule e)) = ReadSongs (firstBlock ls) (Err e)
-Listed ls m n (Err (Log e)) = ReadSongs (secondBlock ls) (Err e)
+Listed ls m n (Err (Log e)) = ((songs : Songs) × ReadSongs (firstBlock ls) (Ok songs)) × ReadSongs (secondBlock ls) (Err e)
 Listed ls m n (Err NoMemory) = Unit {0}

@@ -1,4 +1,4 @@
--- What is promised of every run.
+-- What is seen of a run, and all that is promised of it, together. Promises.antt has each promise by itself.
 use mathlib.Core.Bool.{Bool, true, false, cond, not, _&&_}
 use mathlib.Core.List.{List, [], _∷_, _++_, map}
 use mathlib.Core.Path.{_≡_}

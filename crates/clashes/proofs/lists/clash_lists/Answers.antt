@@ -22,7 +22,10 @@ back c = ap linesOf (take-rest (c .args .text .now) (c .find-gap-gap .result .ne
 
 pub returns-in-Err-read-songs : need.returns-in-Err-read-songs
 returns-in-Err-read-songs c =
-    subst (λ ls. ReadSongs ls (Err (c .in-Err-read-songs .error))) (back (need.at·returns-in-Err-read-songs c .After-find-gap-gap)) (c .in-Err-read-songs .ensures tt)
+    let a = need.at·returns-in-Err-read-songs c .After-find-gap-gap in (
+      (c .in-Ok .songs, subst (λ ls. ReadSongs ls (Ok (c .in-Ok .songs))) (front a) (c .in-Ok .ensures tt)),
+      subst (λ ls. ReadSongs ls (Err (c .in-Err-read-songs .error))) (back a) (c .in-Err-read-songs .ensures tt),
+    )
 
 pub song-rows-left-requires : need.song-rows-left-requires
 song-rows-left-requires c κs = even _ _ (c .as-slice .ensures .value ∙ c .in-Ok .ensures tt .1 .1)
