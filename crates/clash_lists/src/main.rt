@@ -1,4 +1,5 @@
 // Clash lists from two texts: reads the schedule and the log from standard input, and prints both lists and what changed.
+#![tactic(auto)]
 use anyhow::anyhow;
 use clashes::{InputError, clash_lists, read_minutes};
 use reports::report;

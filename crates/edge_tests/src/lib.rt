@@ -1,4 +1,5 @@
 // Tests of the edge cases of docs/RULES.md, over the crates that read text and make clash lists.
+#![tactic(auto)]
 #[cfg(test)]
 mod asked;
 #[cfg(test)]

@@ -1,4 +1,5 @@
 // What a join is opened with: the output list and the checked order (docs/RULES.md, "Opening a join").
+#![tactic(auto)]
 mod checks;
 mod laws;
 mod list;

@@ -1,4 +1,5 @@
 // What the clash list program prints (docs/RULES.md, "The clash list program").
+#![tactic(auto)]
 mod section;
 mod whole;
 

@@ -1,4 +1,5 @@
 // The left table: rows are gathered in lent memory, then the table is sealed (docs/RULES.md, "The left table").
+#![tactic(auto)]
 mod gathering;
 mod laws;
 mod refusal;

@@ -1,4 +1,5 @@
 // The source over value lines (docs/RULES.md, "Sources").
+#![tactic(auto)]
 mod columns;
 mod front;
 mod refusal;

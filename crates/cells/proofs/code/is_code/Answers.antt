@@ -17,11 +17,11 @@ loop-b-init c = refl
 step : (bs : List ℕ) (i : ℕ) → i < length bs → all_alnum (drop i bs) ≡ (is_ascii_alphanumeric (get_or bs i 0) && all_alnum (drop (i + 1) bs))
 step bs i h = at_drop_more all_alnum bs i 0 h
 
-pub returns-then-not-is-ascii-alphanumeric : goal.returns-then-not-is-ascii-alphanumeric
-returns-then-not-is-ascii-alphanumeric c =
+pub returns-then-not-is_ascii_alphanumeric : goal.returns-then-not-is_ascii_alphanumeric
+returns-then-not-is_ascii_alphanumeric c =
     let bs = c.args.bytes.now in
     let e = step bs c.loop-b.b-index c.loop-b-test.true in
-    let f = c.if-not-is-ascii-alphanumeric.ensures.value in
+    let f = c.if-not-is_ascii_alphanumeric.ensures.value in
     let none : all_alnum bs ≡ false = sym c.loop-b.invariant ∙ e ∙ ap (λ x. x && all_alnum (drop (c.loop-b.b-index + 1) bs)) (sym f) in
     sym (not_code bs none)
 
@@ -29,10 +29,10 @@ pub loop-b-preserved : goal.loop-b-preserved
 loop-b-preserved c =
     let bs = c.args.bytes.now in
     let e = step bs c.loop-b.b-index c.loop-b-test.true in
-    let f = c.if-not-is-ascii-alphanumeric.ensures.value in
+    let f = c.if-not-is_ascii_alphanumeric.ensures.value in
     ap (λ x. x && all_alnum (drop (c.loop-b.b-index + 1) bs)) f ∙ sym e ∙ c.loop-b.invariant
 
 pub returns : goal.returns
 returns c =
     let all : all_alnum c.args.bytes.now ≡ true = sym c.loop-b.invariant ∙ at_drop_all all_alnum _ _ c.loop-b-test.false in
-    sym (code_from _ (record { some = omega arith; few = omega arith; first = sym c.if-not-is-ascii-alphabetic.ensures.value; signs = all }))
+    sym (code_from _ (record { some = omega arith; few = omega arith; first = sym c.if-not-is_ascii_alphabetic.ensures.value; signs = all }))

@@ -11,8 +11,8 @@ loop-i-init c = (omega arith, omega arith, sym (ap packed (drop_all _ c.args.byt
 pub bounds-bytes-i : goal.bounds-bytes-i
 bounds-bytes-i c = omega arith
 
-pub overflow-add-bits : goal.overflow-add-bits
-overflow-add-bits c = omega arith
+pub overflow_add-bits : goal.overflow_add-bits
+overflow_add-bits c = omega arith
 
 pub loop-i-preserved : goal.loop-i-preserved
 loop-i-preserved c =

@@ -12,8 +12,8 @@ returns c =
     let near = c.new-near.ensures in
     let wide = c.new-wide.ensures in
     record {
-      at_first = c.in-ok-pairs.ensures ∙ ap at near;
-      at_second = c.in-ok-pairs-2.ensures ∙ ap at wide;
-      adds = c.in-ok-pairs-except.ensures ∙ (λ i. without (at (wide i)) (at (near i)));
-      drops = c.in-ok-pairs-except-2.ensures ∙ (λ i. without (at (near i)) (at (wide i)));
+      at_first = c.in_ok-pairs.ensures ∙ ap at near;
+      at_second = c.in_ok-pairs-2.ensures ∙ ap at wide;
+      adds = c.in_ok-pairs_except.ensures ∙ (λ i. without (at (wide i)) (at (near i)));
+      drops = c.in_ok-pairs_except-2.ensures ∙ (λ i. without (at (near i)) (at (wide i)));
     }

@@ -14,11 +14,11 @@ loop-j-preserved g c =
     let i = c.args.i in
     let j = c.loop-j.j in
     let here : get_or (rows_in t) j [] ≡ c.row.result.now = get_d_rows_from t.count t.columns t.cells.now j (omega arith) ∙ sym c.row.ensures in
-    let clash : c.is-true-clash.result ≡ is_true (says row (get_or (rows_in t) j [])) = c.is-true-clash.ensures ∙ ap is_true c.ask.ensures ∙ ap (λ r. is_true (says row r)) (sym here) in
+    let clash : c.is_true-clash.result ≡ is_true (says row (get_or (rows_in t) j [])) = c.is_true-clash.ensures ∙ ap is_true c.ask.ensures ∙ ap (λ r. is_true (says row r)) (sym here) in
     let more : Bool → List Pair = λ b. cond b (record { left = i; right = j } ∷ []) [] in
-    c.in-ok-add-if.ensures
-    ∙ ap (λ xs. xs ++ more c.is-true-clash.result) c.loop-j.invariant
-    ∙ append_assoc (vec_items c.args.found.now) (row_front says [] (rows_in t) i row j) (more c.is-true-clash.result)
+    c.in_ok-add_if.ensures
+    ∙ ap (λ xs. xs ++ more c.is_true-clash.result) c.loop-j.invariant
+    ∙ append_assoc (vec_items c.args.found.now) (row_front says [] (rows_in t) i row j) (more c.is_true-clash.result)
     ∙ ap (λ xs. vec_items c.args.found.now ++ xs) (ap (λ b. row_front says [] (rows_in t) i row j ++ more b) clash ∙ sym (row_more says [] (rows_in t) i row j))
 
 pub returns : goal.returns

@@ -12,7 +12,7 @@ loop-i-preserved g c =
     let rs = rows_in c.args.right.now in
     let i = c.loop-i.i in
     let here : c.row.result.now ≡ get_or (rows_in t) i [] = c.row.ensures ∙ sym (get_d_rows_from t.count t.columns t.cells.now i (omega arith)) in
-    c.in-ok-add-row.ensures
+    c.in_ok-add_row.ensures
     ∙ ap (λ xs. xs ++ row_pairs says i c.row.result.now rs) c.loop-i.invariant
     ∙ sym (front-more says (rows_in t) rs i c.row.result.now here)
 

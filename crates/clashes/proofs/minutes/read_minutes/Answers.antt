@@ -5,6 +5,6 @@ use Rattle.verdicts.specs.Separations.{number_in}
 use Rattle.clashes.proofs.minutes.read_minutes.Goals as goal
 
 -- a text that writes a number writes no other cell
-pub returns-in-default-number-in : goal.returns-in-default-number-in
-returns-in-default-number-in c n fits writes =
-    c.in-default-number-in.not-Some (pos n) (c.number-in.ensures ∙ ap number_in (writes_once c.in-Some.cell (Number (pos n)) c.args.text.now c.in-Some.ensures writes))
+pub returns-in_default-number_in : goal.returns-in_default-number_in
+returns-in_default-number_in c n fits writes =
+    c.in_default-number_in.not-Some (pos n) (c.number_in.ensures ∙ ap number_in (writes_once c.in-Some.cell (Number (pos n)) c.args.text.now c.in-Some.ensures writes))

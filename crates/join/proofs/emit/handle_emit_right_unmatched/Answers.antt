@@ -13,8 +13,8 @@ use Rattle.join.proofs.Quiet.{room_in}
 use Rattle.join.proofs.Handling.{sound_waiting, handles_by, at_state, delivers_at, delivered, appends}
 use Rattle.join.proofs.emit.handle_emit_right_unmatched.Goals as goal
 
-pub deliver-rows-requires : goal.deliver-rows-requires
-deliver-rows-requires g c =
+pub deliver_rows-requires : goal.deliver_rows-requires
+deliver_rows-requires g c =
     let a = c.args in
     let plan = a.plan.now in
     let p = a.probe.now in
@@ -29,7 +29,7 @@ returns-then-probe-plan g c =
     let a = c.args in
     let plan = a.plan.now in
     let p = a.probe.now in
-    let e = c.deliver-rows.ensures in
+    let e = c.deliver_rows.ensures in
     let lw = length-rows_from p.waiting plan.list.count a.waiting.now in
     let few : p.waiting - plan.batch_size ≤ room_of plan p.largest = omega (arith, c.requires.sound.waiting) in
     record {
@@ -47,20 +47,20 @@ returns g c =
     let a = c.args in
     let plan = a.plan.now in
     let p = a.probe.now in
-    let e = c.process-right-unmatched-probe.ensures in
-    let k = c.process-right-unmatched-probe.result in
-    let page = c.process-right-unmatched-probe.new.waiting in
+    let e = c.process_right_unmatched-probe.ensures in
+    let k = c.process_right_unmatched-probe.result in
+    let page = c.process_right_unmatched-probe.new.waiting in
     let lw = length-rows_from p.waiting plan.list.count a.waiting.now in
     let all : p.waiting + p.rows ≤ room_of plan p.largest = omega (arith, c.requires.sound.rows) in
     record {
       handled = λ says left who most n marks items.
           let S = setup_in g.C.Cell.missing g.C.Cell.yes g.C.Cell.no plan says left in
           let around-it = around marks n items a.right.now a.waiting.now a.out.now in
-          let wide : length S.columns ≡ plan.list.count = ap length (sym c.output-columns.ensures.list) ∙ c.output-columns.ensures.long in
+          let wide : length S.columns ≡ plan.list.count = ap length (sym c.output_columns.ensures.list) ∙ c.output_columns.ensures.long in
           let more = right_rest S (rows_from p.rows plan.list.right_columns a.right.now) (bits_of p.rows p.right_marks) in
           let rows : rows_from k plan.list.count page ≡ waiting_rows plan p a.waiting.now ++ more =
           ap (λ w. rows_from k w page) (sym wide)
-          ∙ e.rows S (record { missing_is = refl; yes_is = refl; no_is = refl; type_is = refl; columns_are = sym c.output-columns.ensures.list })
+          ∙ e.rows S (record { missing_is = refl; yes_is = refl; no_is = refl; type_is = refl; columns_are = sym c.output_columns.ensures.list })
           (record {
             fit = rw wide (room_in _ (room_of plan p.largest) plan.list.count (length a.waiting.now) all c.requires.room);
             countable = omega (arith, c.requires.planned.few_batch, c.requires.sound.largest, c.requires.sound.rows);

@@ -17,14 +17,14 @@ returns-then-rows-gt0 g c =
     let fits : Fits most (g.S.Source.width a.source.now) (batch t.0) = (subst (All (Fits most (g.S.Source.width a.source.now))) t.1 (g.S.Source.fits a.source.now)).0 in
     let wide : All (λ r. length r ≡ plan.list.right_columns) t.0 = subst (λ (w : ℕ). All (λ r. length r ≡ w) t.0) c.requires.columns fits.1 in
     let large : c.max-probe.result ≡ max p.largest most = c.max-probe.ensures ∙ ap (max p.largest) c.largest-largest.ensures in
-    let more : c.saturating-add-probe.result ≡ counted (suc p.taken) = omega (arith, c.saturating-add-probe.ensures) in
+    let more : c.saturating_add-probe.result ≡ counted (suc p.taken) = omega (arith, c.saturating_add-probe.ensures) in
     let some : most ≤ 1024 = g.S.Source.small in
     let few = fits.0 in
     let n : c.in-FetchingRight-Batch.rows ≡ length t.0 = t.2 in
     record {
       handled = λ T marks n waiting out.
-          subst (Made plan a.number most p c.requires.state T marks n waiting out a.right.now c.ask.new.page after c.max-probe.result c.saturating-add-probe.result large _ _) (sym t.1)
-          (full_batch plan a.number most p c.requires.state T marks n waiting out a.right.now c.ask.new.page after c.max-probe.result c.saturating-add-probe.result large
+          subst (Made plan a.number most p c.requires.state T marks n waiting out a.right.now c.ask.new.page after c.max-probe.result c.saturating_add-probe.result large _ _) (sym t.1)
+          (full_batch plan a.number most p c.requires.state T marks n waiting out a.right.now c.ask.new.page after c.max-probe.result c.saturating_add-probe.result large
           c.in-FetchingRight-Batch.rows t.0 c.if-rows-gt0.true t.2 wide t.3 more);
       sound = record { rows = omega arith; largest = omega (arith, c.requires.sound.largest); waiting = omega (arith, c.requires.sound.waiting); placed = (omega arith, omega arith) };
       width = c.in-Ok.ensures.width;

@@ -13,8 +13,8 @@ use Rattle.join.proofs.Quiet.{room_in}
 use Rattle.join.proofs.Handling.{right-rest, sound_waiting, handles_by, handles_as, at_state, delivers_at, delivered, passes}
 use Rattle.join.proofs.probe.handle_probe_right.Goals as goal
 
-pub deliver-rows-requires : goal.deliver-rows-requires
-deliver-rows-requires g c =
+pub deliver_rows-requires : goal.deliver_rows-requires
+deliver_rows-requires g c =
     let a = c.args in
     let plan = a.plan.now in
     let p = a.probe.now in
@@ -30,7 +30,7 @@ returns-then-probe-plan g c =
     let plan = a.plan.now in
     let p = a.probe.now in
     let S = setup_in g.Cell.Cell.missing g.Cell.Cell.yes g.Cell.Cell.no plan (g.V.Verdict.says a.verdict.now) a.left.now in
-    let e = c.deliver-rows.ensures in
+    let e = c.deliver_rows.ensures in
     let lw = length-rows_from p.waiting plan.list.count a.waiting.now in
     let few : p.waiting - plan.batch_size ≤ room_of plan p.largest = omega (arith, c.requires.sound.waiting) in
     record {
@@ -47,7 +47,7 @@ returns-then-probe-plan-2 g c =
     let plan = a.plan.now in
     let p = a.probe.now in
     let S = setup_in g.Cell.Cell.missing g.Cell.Cell.yes g.Cell.Cell.no plan (g.V.Verdict.says a.verdict.now) a.left.now in
-    let e = c.process-probe-batch.ensures in
+    let e = c.process_probe_batch.ensures in
     let lw = length-rows_from p.waiting plan.list.count a.waiting.now in
     let lt = length-rows_from plan.left_rows plan.list.left_columns a.left.now in
     record {
@@ -59,15 +59,15 @@ returns-then-probe-plan-2 g c =
       sound = e.sound;
     }
 
-pub returns-then-need-produce-right-in-final : goal.returns-then-need-produce-right-in-final
-returns-then-need-produce-right-in-final g c =
+pub returns-then-need_produce_right_in_final : goal.returns-then-need_produce_right_in_final
+returns-then-need_produce_right_in_final g c =
     let a = c.args in
     let plan = a.plan.now in
     let p = a.probe.now in
     let S = setup_in g.Cell.Cell.missing g.Cell.Cell.yes g.Cell.Cell.no plan (g.V.Verdict.says a.verdict.now) a.left.now in
     let lw = length-rows_from p.waiting plan.list.count a.waiting.now in
     let lt = length-rows_from plan.left_rows plan.list.left_columns a.left.now in
-    let rests : some_rest (right_rest_of plan.list.join_type) ≡ true = ap some_rest (sym (right-rest plan.list.join_type)) ∙ sym c.need-produce-right-in-final.ensures ∙ c.if-need-produce-right-in-final.true in
+    let rests : some_rest (right_rest_of plan.list.join_type) ≡ true = ap some_rest (sym (right-rest plan.list.join_type)) ∙ sym c.need_produce_right_in_final.ensures ∙ c.if-need_produce_right_in_final.true in
     record {
       handled = λ who most n items.
           let around-it = around a.left_marks.now n items a.right.now a.waiting.now a.out.now in
@@ -77,15 +77,15 @@ returns-then-need-produce-right-in-final g c =
       sound = record { rows = c.requires.sound.rows; largest = c.requires.sound.largest; waiting = c.requires.sound.waiting; placed = tt };
     }
 
-pub returns-else-need-produce-right-in-final : goal.returns-else-need-produce-right-in-final
-returns-else-need-produce-right-in-final g c =
+pub returns-else-need_produce_right_in_final : goal.returns-else-need_produce_right_in_final
+returns-else-need_produce_right_in_final g c =
     let a = c.args in
     let plan = a.plan.now in
     let p = a.probe.now in
     let S = setup_in g.Cell.Cell.missing g.Cell.Cell.yes g.Cell.Cell.no plan (g.V.Verdict.says a.verdict.now) a.left.now in
     let lw = length-rows_from p.waiting plan.list.count a.waiting.now in
     let lt = length-rows_from plan.left_rows plan.list.left_columns a.left.now in
-    let rests : some_rest (right_rest_of plan.list.join_type) ≡ false = ap some_rest (sym (right-rest plan.list.join_type)) ∙ sym c.need-produce-right-in-final.ensures ∙ c.if-need-produce-right-in-final.false in
+    let rests : some_rest (right_rest_of plan.list.join_type) ≡ false = ap some_rest (sym (right-rest plan.list.join_type)) ∙ sym c.need_produce_right_in_final.ensures ∙ c.if-need_produce_right_in_final.false in
     record {
       handled = λ who most n items.
           let around-it = around a.left_marks.now n items a.right.now a.waiting.now a.out.now in

@@ -15,15 +15,15 @@ returns g c =
     let plan = a.plan.now in
     let p = a.probe.now in
     let S = setup_in g.Cell.Cell.missing g.Cell.Cell.yes g.Cell.Cell.no plan (g.V.Verdict.says a.verdict.now) a.left.now in
-    let t = c.rows-joined.result in
-    let e = c.process-left-range-join-probe.ensures in
-    let few : t ≤ plan.left_rows - p.index = rw c.rows-joined.ensures (joined_few plan p c.requires.more) in
-    let pairs : t * p.rows ≤ max plan.batch_size p.largest = rw c.rows-joined.ensures (joined_pairs plan p p.largest c.requires.sound.rows) in
+    let t = c.rows_joined.result in
+    let e = c.process_left_range_join-probe.ensures in
+    let few : t ≤ plan.left_rows - p.index = rw c.rows_joined.ensures (joined_few plan p c.requires.more) in
+    let pairs : t * p.rows ≤ max plan.batch_size p.largest = rw c.rows_joined.ensures (joined_pairs plan p p.largest c.requires.sound.rows) in
     let here : (p.index + t) - p.index ≡ t = omega arith in
     let all : p.waiting + ((p.index + t) - p.index) * p.rows ≤ room_of plan p.largest = rw here (omega (arith, c.requires.few)) in
-    let wide : length S.columns ≡ plan.list.count = ap length (sym c.output-columns.ensures.list) ∙ c.output-columns.ensures.long in
+    let wide : length S.columns ≡ plan.list.count = ap length (sym c.output_columns.ensures.list) ∙ c.output_columns.ensures.long in
     let is : t ≡ rows_met S (length (rows_from p.rows plan.list.right_columns a.right.now)) p.index =
-    c.rows-joined.ensures
+    c.rows_joined.ensures
     ∙ ap₂ (λ x y. cond (ltb 10 (plan.batch_size / x)) (min (plan.batch_size / x) (y - p.index)) 1)
     (sym (length-rows_from p.rows plan.list.right_columns a.right.now)) (sym (length-rows_from plan.left_rows plan.list.left_columns a.left.now)) in
     let words : length p.right_marks ≡ 16 = search rules in
@@ -33,9 +33,9 @@ returns g c =
     record {
       answer = refl;
       handled = λ who most n items out.
-          met_handles S plan who most p c.requires.state a.left_marks.now c.process-left-range-join-probe.new.left_marks c.process-left-range-join-probe.new.right_marks n items a.right.now a.waiting.now
-          c.process-left-range-join-probe.new.waiting out c.process-left-range-join-probe.result t _ is here wide
-          (e.rows S (record { missing_is = refl; verdict_is = refl; type_is = refl; columns_are = sym c.output-columns.ensures.list })
+          met_handles S plan who most p c.requires.state a.left_marks.now c.process_left_range_join-probe.new.left_marks c.process_left_range_join-probe.new.right_marks n items a.right.now a.waiting.now
+          c.process_left_range_join-probe.new.waiting out c.process_left_range_join-probe.result t _ is here wide
+          (e.rows S (record { missing_is = refl; verdict_is = refl; type_is = refl; columns_are = sym c.output_columns.ensures.list })
           (record {
             lefts_fit = omega (arith, c.requires.planned.few_rows, c.requires.words);
             rights_fit = omega (arith, words, c.requires.sound.rows, c.requires.sound.largest);

@@ -18,23 +18,23 @@ room t i n s h l =
 pub loop-b-init : goal.loop-b-init
 loop-b-init c = (refl, omega arith, refl)
 
-pub overflow-mul-n : goal.overflow-mul-n
-overflow-mul-n c = omega (arith, room _ _ _ (c.if-not-sized.ensures.0 refl) c.loop-b.auto.b-index-end c.loop-b.invariant.1)
+pub overflow_mul-n : goal.overflow_mul-n
+overflow_mul-n c = omega (arith, room _ _ _ (c.if-not-sized.ensures.0 refl) c.loop-b.auto.b-index-end c.loop-b.invariant.1)
 
-pub overflow-add-n : goal.overflow-add-n
-overflow-add-n c =
-    let d = digit_in (get_or c.args.text.now c.loop-b.b-index 0) (sym c.if-not-is-ascii-digit.ensures.value) in
+pub overflow_add-n : goal.overflow_add-n
+overflow_add-n c =
+    let d = digit_in (get_or c.args.text.now c.loop-b.b-index 0) (sym c.if-not-is_ascii_digit.ensures.value) in
     omega (arith, room _ _ _ (c.if-not-sized.ensures.0 refl) c.loop-b.auto.b-index-end c.loop-b.invariant.1)
 
-pub returns-then-not-is-ascii-digit : goal.returns-then-not-is-ascii-digit
-returns-then-not-is-ascii-digit c =
-    not_digits _ c.loop-b.b-index c.loop-b-test.true (sym c.if-not-is-ascii-digit.ensures.value) c.loop-b.invariant.2
+pub returns-then-not-is_ascii_digit : goal.returns-then-not-is_ascii_digit
+returns-then-not-is_ascii_digit c =
+    not_digits _ c.loop-b.b-index c.loop-b-test.true (sym c.if-not-is_ascii_digit.ensures.value) c.loop-b.invariant.2
 
 pub loop-b-preserved : goal.loop-b-preserved
 loop-b-preserved c =
     let t = c.args.text.now in
     let i = c.loop-b.b-index in
-    let d = c.if-not-is-ascii-digit.ensures.value in
+    let d = c.if-not-is_ascii_digit.ensures.value in
     let r = digit_in (get_or t i 0) (sym d) in (
       ap (λ x. x * 10 + (get_or t i 0 - 48)) c.loop-b.invariant.0 ∙ sym (fold_more (λ n d. n * 10 + (d - 48)) 0 t i 0 c.loop-b-test.true),
       omega (arith, pow-suc 10 i, ap (λ x. 10 ^ x) (add-one i)),

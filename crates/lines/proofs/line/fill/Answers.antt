@@ -22,11 +22,11 @@ unreachable-requires c =
 pub bounds-row-n : goal.bounds-row-n
 bounds-row-n c = omega arith
 
-pub offset-bounds-row-n : goal.offset-bounds-row-n
-offset-bounds-row-n c = omega arith
+pub offset_bounds-row-n : goal.offset_bounds-row-n
+offset_bounds-row-n c = omega arith
 
-pub overflow-add-n : goal.overflow-add-n
-overflow-add-n c = omega arith
+pub overflow_add-n : goal.overflow_add-n
+overflow_add-n c = omega arith
 
 pub returns-then-to-line : goal.returns-then-to-line
 returns-then-to-line c =

@@ -10,7 +10,7 @@ returns-then-row-eq0 c = c.new.ensures.bytes ∙ sym (ap row_text (nil_from_leng
 
 pub loop-i-preserved : goal.loop-i-preserved
 loop-i-preserved c =
-    let added = c.in-ok-add.ensures in
+    let added = c.in_ok-add.ensures in
     let more = row_text-more _ _ _ c.loop-i-test.true c.index-row-i.is (omega arith) in
     cc
 

@@ -12,8 +12,8 @@ returns g c =
     let row = output_row g.C.Cell.missing a.columns.now a.left.now a.right.now a.mark in
     let few : length a.page.now < 2 ^ 64 = omega arith in
     let wide : length row ≡ w = length-map a.columns.now f in
-    let at = c.saturating-mul-at in
-    let put = c.put-output in
+    let at = c.saturating_mul-at in
+    let put = c.put_output in
     record {
       room = behind-room a.waiting w a.page.now row few wide at.result at.ensures put.result put.new.page put.ensures.room put.ensures.cells;
       cells = behind_cells a.waiting w a.page.now row few wide at.result at.ensures put.result put.new.page put.ensures.room put.ensures.cells;

@@ -6,6 +6,6 @@ pub returns : goal.returns
 returns g c =
     let a = c.args in
     record {
-      moved = front-moved a.cut a.waiting.now a.out.now _ (omega arith) c.copy-from-slice.ensures.after;
-      stayed = rest-moved a.cut a.end a.waiting.now _ c.requires.0 c.requires.1.0 c.copy-within.ensures.after;
+      moved = front-moved a.cut a.waiting.now a.out.now _ (omega arith) c.copy_from_slice.ensures.after;
+      stayed = rest-moved a.cut a.end a.waiting.now _ c.requires.0 c.requires.1.0 c.copy_within.ensures.after;
     }

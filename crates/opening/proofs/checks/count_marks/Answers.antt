@@ -9,8 +9,8 @@ use Rattle.opening.proofs.checks.count_marks.Goals.{in-Left, in-None}
 abbrev marks_a_row : ColumnIndex → Bool
 marks_a_row x = is_mark x.side
 
-pub overflow-add-count : goal.overflow-add-count
-overflow-add-count c =
+pub overflow_add-count : goal.overflow_add-count
+overflow_add-count c =
     let i = c.loop-column.column-index in
     let xs = c.args.columns.now in
     omega (arith, c.loop-column.invariant, count_by-le-length marks_a_row (take i xs), length-take-le i xs (omega arith))

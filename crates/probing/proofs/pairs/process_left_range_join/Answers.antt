@@ -9,8 +9,8 @@ use Rattle.probing.proofs.pairs.process_left_range_join.Goals as goal
 pub loop-i-preserved : goal.loop-i-preserved
 loop-i-preserved g c = λ S e.
     let a = c.args in
-    let same : has_pairs S.join_type ≡ c.row-pairs.result.pairs = ap has_pairs e.type_is ∙ ap (λ r. r.pairs) (sym c.row-pairs.ensures) in
-    range_turn a.left.now S c.loop-i.i a.to _ (rows_of a.right.now) _ _ (omega arith) c.row-at-row.ensures (c.process-single-left-row-join-k.ensures S e same) ∙ c.loop-i.invariant S e
+    let same : has_pairs S.join_type ≡ c.row_pairs.result.pairs = ap has_pairs e.type_is ∙ ap (λ r. r.pairs) (sym c.row_pairs.ensures) in
+    range_turn a.left.now S c.loop-i.i a.to _ (rows_of a.right.now) _ _ (omega arith) c.row_at-row.ensures (c.process_single_left_row_join-k.ensures S e same) ∙ c.loop-i.invariant S e
 
 pub returns : goal.returns
 returns g c =

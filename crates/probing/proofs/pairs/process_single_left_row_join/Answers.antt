@@ -8,7 +8,7 @@ use Rattle.probing.proofs.pairs.process_single_left_row_join.Goals as goal
 pub loop-j-preserved : goal.loop-j-preserved
 loop-j-preserved g c = λ S e h.
     let a = c.args in
-    row_turn a.right.now S a.i a.left.now c.loop-j.j _ _ _ (omega arith) c.row-at-row.ensures (c.join-pair-k.ensures S e h) ∙ c.loop-j.invariant S e h
+    row_turn a.right.now S a.i a.left.now c.loop-j.j _ _ _ (omega arith) c.row_at-row.ensures (c.join_pair-k.ensures S e h) ∙ c.loop-j.invariant S e h
 
 pub returns : goal.returns
 returns g c = λ S e h.

@@ -10,7 +10,7 @@ use Rattle.probing.proofs.rests.append_rest.Goals as goal
 pub loop-i-preserved : goal.loop-i-preserved
 loop-i-preserved g c = λ S e.
     let a = c.args in
-    rest_turn (width S) a.rest (side_row S a.on-left a.rest) a.lent.now a.marks.now c.loop-i.i a.to _ _ (waiting_of c.loop-i.k c.loop-i.waiting) _ (omega arith) c.row-at-row.ensures c.is-marked-marked.ensures (c.append-row-k.ensures S e)
+    rest_turn (width S) a.rest (side_row S a.on_left a.rest) a.lent.now a.marks.now c.loop-i.i a.to _ _ (waiting_of c.loop-i.k c.loop-i.waiting) _ (omega arith) c.row_at-row.ensures c.is_marked-marked.ensures (c.append_row-k.ensures S e)
     ∙ c.loop-i.invariant S e
 
 pub returns : goal.returns
@@ -19,5 +19,5 @@ returns g c = λ S e.
     let t = rows_of a.lent.now in
     let len = length-rows_of a.lent.now in
     let end : min a.to (length t) ≤ c.loop-i.i = omega arith in
-    sym (ap (λ x. rest_appended (width S) a.rest (side_row S a.on-left a.rest) x (stretch c.loop-i.i a.to (bits_of a.lent.now.rows a.marks.now)) (waiting_of c.loop-i.k c.loop-i.waiting)) (stretch-none t c.loop-i.i a.to end))
+    sym (ap (λ x. rest_appended (width S) a.rest (side_row S a.on_left a.rest) x (stretch c.loop-i.i a.to (bits_of a.lent.now.rows a.marks.now)) (waiting_of c.loop-i.k c.loop-i.waiting)) (stretch-none t c.loop-i.i a.to end))
     ∙ c.loop-i.invariant S e

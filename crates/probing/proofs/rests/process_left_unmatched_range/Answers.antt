@@ -16,9 +16,9 @@ returns g c =
     let xs = stretch a.from a.to (rows_of a.left.now) in
     let bs = stretch a.from a.to (bits_of a.left.now.rows a.left_marks.now) in
     let before = waiting_of a.count a.waiting.now in
-    let after = waiting_of c.append-rest.result c.append-rest.new.waiting in
+    let after = waiting_of c.append_rest.result c.append_rest.new.waiting in
     let all : (S : Setup g.row.C.Denot) → RestsBy S g.C.Cell.missing g.C.Cell.yes g.C.Cell.no a.output.now → after ≡ rest_appended (width S) (left_rest_of S.join_type) (left_row S) xs bs before =
-    λ S e. c.append-rest.ensures S e
+    λ S e. c.append_rest.ensures S e
     ∙ ap (λ k. rest_appended (width S) k (side_row S true k) xs bs before) (ap (λ r. r.left_rest) c.row-rest.ensures ∙ ap left_rest_of (sym e.type_is)) in
     let none = g.C.Cell.missing in
     let some : Setup g.row.C.Denot = record { missing = none; yes = g.C.Cell.yes; no = g.C.Cell.no; join_type = a.output.now.join_type; batch_size = 0; columns = a.output.now.columns.now; table = []; verdict = always False } in

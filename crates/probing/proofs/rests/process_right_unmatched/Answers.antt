@@ -20,9 +20,9 @@ returns g c =
     let bs = bits_of n a.right_marks.now in
     let long = length-rows_of a.right.now in
     let before = waiting_of a.count a.waiting.now in
-    let after = waiting_of c.append-rest.result c.append-rest.new.waiting in
+    let after = waiting_of c.append_rest.result c.append_rest.new.waiting in
     let all : (S : Setup g.row.C.Denot) → RestsBy S g.C.Cell.missing g.C.Cell.yes g.C.Cell.no a.output.now → after ≡ rest_appended (width S) (right_rest_of S.join_type) (right_row S) xs bs before =
-    λ S e. c.append-rest.ensures S e
+    λ S e. c.append_rest.ensures S e
     ∙ ap (λ k. rest_appended (width S) k (side_row S false k) (stretch 0 n xs) (stretch 0 n bs) before) (ap (λ r. r.right_rest) c.row-rest.ensures ∙ right-rest a.output.now.join_type ∙ ap right_rest_of (sym e.type_is))
     ∙ ap₂ (λ (x : List (List g.row.C.Denot)) (y : List Bool). rest_appended (width S) (right_rest_of S.join_type) (right_row S) x y before) (stretch-all n xs long) (stretch-all n bs (length-map-range_with_len (bit a.right_marks.now) 0 n)) in
     let none = g.C.Cell.missing in

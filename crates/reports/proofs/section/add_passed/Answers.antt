@@ -9,9 +9,9 @@ pub loop-line-preserved : goal.loop-line-preserved
 loop-line-preserved c =
     let none : PassedLine = record { index = 0; refusal = Miscounted } in
     added_more (passed_line c.args.first) c.args.passed.now (string_bytes c.args.out.now)
-    c.loop-line.line-index none (string_bytes c.loop-line.out) (string_bytes c.add.new.out) (string_bytes c.in-ok-text.text)
-    c.loop-line-test.true c.loop-line.invariant c.in-ok-add.ensures
-    (c.in-ok-text.ensures ∙ (λ i. refused_line (c.saturating-add-place.ensures i) (c.number.ensures i) (get_or c.args.passed.now c.loop-line.line-index none).refusal))
+    c.loop-line.line-index none (string_bytes c.loop-line.out) (string_bytes c.add.new.out) (string_bytes c.in_ok-text.text)
+    c.loop-line-test.true c.loop-line.invariant c.in_ok-add.ensures
+    (c.in_ok-text.ensures ∙ (λ i. refused_line (c.saturating_add-place.ensures i) (c.number.ensures i) (get_or c.args.passed.now c.loop-line.line-index none).refusal))
 
 pub returns : goal.returns
 returns c =

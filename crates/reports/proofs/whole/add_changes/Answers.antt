@@ -6,8 +6,8 @@ use Rattle.reports.proofs.whole.add_changes.Goals as goal
 pub returns : goal.returns
 returns c =
     let lists = c.args.lists.now in
-    let added = c.in-ok-head.ensures.ok in
-    let dropped = c.in-ok-head-2.ensures.ok in
-    added_two (string_bytes c.args.out.now) (string_bytes c.add-list.new.out) (string_bytes c.add-list-2.new.out) _ _
-    (c.in-ok-add-list.ensures ∙ (λ i. string_bytes c.args.out.now ++ one_list (added i) lists (c.as-slice-added.ensures.value i)))
-    (c.in-ok-add-list-2.ensures ∙ (λ i. string_bytes c.add-list.new.out ++ one_list (dropped i) lists (c.as-slice-dropped.ensures.value i)))
+    let added = c.in_ok-head.ensures.ok in
+    let dropped = c.in_ok-head-2.ensures.ok in
+    added_two (string_bytes c.args.out.now) (string_bytes c.add_list.new.out) (string_bytes c.add_list-2.new.out) _ _
+    (c.in_ok-add_list.ensures ∙ (λ i. string_bytes c.args.out.now ++ one_list (added i) lists (c.as_slice-added.ensures.value i)))
+    (c.in_ok-add_list-2.ensures ∙ (λ i. string_bytes c.add_list.new.out ++ one_list (dropped i) lists (c.as_slice-dropped.ensures.value i)))

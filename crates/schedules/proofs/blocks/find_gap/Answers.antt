@@ -16,7 +16,7 @@ pub loop-at-preserved : goal.loop-at-preserved
 loop-at-preserved c =
     let text = c.args.text.now in
     let at = c.loop-at.at in
-    let moved : behind text at ≡ c.pass-line.new.cursor = sym (c.pass-line.ensures ∙ cond-true _ _ _ (lt-ltb _ _ c.loop-at-test.true)) in
+    let moved : behind text at ≡ c.pass_line.new.cursor = sym (c.pass_line.ensures ∙ cond-true _ _ _ (lt-ltb _ _ c.loop-at-test.true)) in
     subst (λ n. Walked text n (c.loop-at.lines + 1)) moved (walked_more text at c.loop-at.lines c.loop-at.invariant c.loop-at-test.true c.if-text-at-eq10.false)
 
 pub returns : goal.returns

@@ -7,6 +7,6 @@ pub loop-songs-preserved : goal.loop-songs-preserved
 loop-songs-preserved c =
     let text = c.args.text.now in
     let k = c.loop-songs in
-    let t = c.take-line.new in
+    let t = c.take_line.new in
     taking_more text c.args.start k.songs t.songs k.cursor t.cursor k.index k.invariant
-    (subst (λ b. Took text k.cursor k.index k.songs (Ok b) t.songs t.cursor) c.if-branch.true c.in-ok-take-line.ensures)
+    (subst (λ b. Took text k.cursor k.index k.songs (Ok b) t.songs t.cursor) c.if-branch.true c.in_ok-take_line.ensures)

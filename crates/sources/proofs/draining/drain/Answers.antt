@@ -14,39 +14,39 @@ pub loop-brought-preserved : goal.loop-brought-preserved
 loop-brought-preserved g c =
     let source = g.S.Source in
     let l = c.loop-brought in
-    let t = c.take-item.new in (
-      c.in-ok-take-item.ensures.width ∙ l.invariant.0,
+    let t = c.take_item.new in (
+      c.in_ok-take_item.ensures.width ∙ l.invariant.0,
       draining_more source.items _ c.args.source.now l.source t.source c.args.page.now l.page t.page l.brought t.brought l.invariant.1 (omega arith)
-          (source.most * source.width l.source) (ap (λ w. source.most * w) l.invariant.0) (rw c.if-branch.true at c.in-ok-take-item.ensures.item),
+          (source.most * source.width l.source) (ap (λ w. source.most * w) l.invariant.0) (rw c.if-branch.true at c.in_ok-take_item.ensures.item),
     )
 
 pub loop-brought-smaller : goal.loop-brought-smaller
 loop-brought-smaller g c =
     let source = g.S.Source in
     let l = c.loop-brought in
-    let t = c.take-item.new in
-    takes_less source.items (source.most * source.width l.source) l.source t.source l.page t.page l.brought t.brought (rw c.if-branch.true at c.in-ok-take-item.ensures.item)
+    let t = c.take_item.new in
+    takes_less source.items (source.most * source.width l.source) l.source t.source l.page t.page l.brought t.brought (rw c.if-branch.true at c.in_ok-take_item.ensures.item)
 
-pub returns-in-err-take-item : goal.returns-in-err-take-item
-returns-in-err-take-item g c =
+pub returns-in_err-take_item : goal.returns-in_err-take_item
+returns-in_err-take_item g c =
     let source = g.S.Source in
     let l = c.loop-brought in
-    let t = c.take-item.new in
-    let p = err_from_is_err_and c.from-residual.result c.from-residual.ensures.1 in
+    let t = c.take_item.new in
+    let p = err_from_is_err_and c.from_residual.result c.from_residual.ensures.1 in
     rw (p.1, p.2)
     (record {
       items = draining_exit source.items _ c.args.source.now l.source t.source c.args.page.now l.page t.page l.brought t.brought l.invariant.1 (omega arith)
-          (source.most * source.width l.source) (ap (λ w. source.most * w) l.invariant.0) c.in-err-take-item.field-0.0 c.in-err-take-item.ensures.item;
-      width = c.in-err-take-item.ensures.width ∙ l.invariant.0;
+          (source.most * source.width l.source) (ap (λ w. source.most * w) l.invariant.0) c.in_err-take_item.field-0.0 c.in_err-take_item.ensures.item;
+      width = c.in_err-take_item.ensures.width ∙ l.invariant.0;
     })
 
 pub returns : goal.returns
 returns g c =
     let source = g.S.Source in
     let l = c.loop-brought in
-    let t = c.take-item.new in
+    let t = c.take_item.new in
     record {
       items = draining_all source.items _ c.args.source.now l.source t.source c.args.page.now l.page t.page l.brought t.brought l.invariant.1 (omega arith)
-          (source.most * source.width l.source) (ap (λ w. source.most * w) l.invariant.0) (rw c.if-branch.false at c.in-ok-take-item.ensures.item);
-      width = c.in-ok-take-item.ensures.width ∙ l.invariant.0;
+          (source.most * source.width l.source) (ap (λ w. source.most * w) l.invariant.0) (rw c.if-branch.false at c.in_ok-take_item.ensures.item);
+      width = c.in_ok-take_item.ensures.width ∙ l.invariant.0;
     }

@@ -6,24 +6,24 @@ use Rattle.memory.proofs.Cuts.{length-rows_from}
 use Rattle.sources.specs.Present.{has_cell}
 use Rattle.sources.proofs.Keeping.{row_within, kept_yes, kept_no}
 use Rattle.sources.proofs.keep.keep_rows.Goals as goal
-use Rattle.sources.proofs.keep.keep_rows.Goals.{then-has-cell, else-has-cell}
+use Rattle.sources.proofs.keep.keep_rows.Goals.{then-has_cell, else-has_cell}
 
-pub overflow-mul-from : goal.overflow-mul-from
-overflow-mul-from g c = omega (arith, row_within c.loop-i.i c.args.rows c.args.columns (length c.args.page.now) (omega arith) (omega arith))
+pub overflow_mul-from : goal.overflow_mul-from
+overflow_mul-from g c = omega (arith, row_within c.loop-i.i c.args.rows c.args.columns (length c.args.page.now) (omega arith) (omega arith))
 
-pub overflow-add-from : goal.overflow-add-from
-overflow-add-from g c = omega (arith, row_within c.loop-i.i c.args.rows c.args.columns (length c.args.page.now) (omega arith) (omega arith))
+pub overflow_add-from : goal.overflow_add-from
+overflow_add-from g c = omega (arith, row_within c.loop-i.i c.args.rows c.args.columns (length c.args.page.now) (omega arith) (omega arith))
 
-pub overflow-mul-count : goal.overflow-mul-count
-overflow-mul-count g c =
+pub overflow_mul-count : goal.overflow_mul-count
+overflow_mul-count g c =
     let low : c.loop-i.count * c.args.columns ≤ c.loop-i.i * c.args.columns = mul-le-mul_right c.args.columns c.loop-i.invariant.behind in
     omega (arith, row_within c.loop-i.i c.args.rows c.args.columns (length c.args.page.now) (omega arith) (omega arith))
 
-pub copy-within-requires : goal.copy-within-requires
-copy-within-requires g c =
+pub copy_within-requires : goal.copy_within-requires
+copy_within-requires g c =
     let low : c.loop-i.count * c.args.columns ≤ c.loop-i.i * c.args.columns = mul-le-mul_right c.args.columns c.loop-i.invariant.behind in
     let here = row_within c.loop-i.i c.args.rows c.args.columns (length c.args.page.now) (omega arith) (omega arith) in
-    record { start-le-end = omega arith; in_bounds = omega arith; dest-in-bounds = omega arith; not-exhausted = tt }
+    record { start-le-end = omega arith; in_bounds = omega arith; dest-in_bounds = omega arith; not-exhausted = tt }
 
 pub loop-i-preserved : goal.loop-i-preserved
 loop-i-preserved g c =
@@ -33,16 +33,16 @@ loop-i-preserved g c =
     let p = has_cell g.row.C-Cell.is_missing a.column in
     let lt : i < a.rows = omega arith in
     let long : length page ≡ length a.page.now = omega arith in
-    let told = sym (ap p c.row-at.ensures) ∙ sym c.has-cell.ensures in
-    elim c.if-has-cell.branch [
-      | then-has-cell w ↦
+    let told = sym (ap p c.row_at.ensures) ∙ sym c.has_cell.ensures in
+    elim c.if-has_cell.branch [
+      | then-has_cell w ↦
           let part : i * a.columns + a.columns - i * a.columns ≡ a.columns = omega arith in
           rw (w.page-is, w.count-is)
-          (kept_yes p a.columns a.rows a.page.now page c.loop-i.count i c.loop-i.invariant lt (omega arith) long _ (told ∙ w.if-has-cell.true)
-          (w.copy-within.ensures.after ∙ ap (λ n. paste page (c.loop-i.count * a.columns) (drop (i * a.columns) page) n) part))
-      | else-has-cell w ↦
+          (kept_yes p a.columns a.rows a.page.now page c.loop-i.count i c.loop-i.invariant lt (omega arith) long _ (told ∙ w.if-has_cell.true)
+          (w.copy_within.ensures.after ∙ ap (λ n. paste page (c.loop-i.count * a.columns) (drop (i * a.columns) page) n) part))
+      | else-has_cell w ↦
           rw (w.page-is, w.count-is)
-          (kept_no p a.columns a.rows a.page.now page c.loop-i.count i c.loop-i.invariant lt (omega arith) long (told ∙ w.if-has-cell.false))
+          (kept_no p a.columns a.rows a.page.now page c.loop-i.count i c.loop-i.invariant lt (omega arith) long (told ∙ w.if-has_cell.false))
     ]
 
 pub returns : goal.returns

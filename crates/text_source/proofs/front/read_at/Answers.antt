@@ -8,6 +8,6 @@ pub returns : goal.returns
 returns c =
     let a = c.args in
     let size : a.at + a.columns - a.at ≡ a.columns = omega arith in
-    let read = subst (λ n. Read a.text.now a.cursor.now (take n (drop a.at a.page.now)) c.read-row.result c.read-row.new.row c.read-row.new.cursor) size c.read-row.ensures in
-    let long : length c.read-row.new.row ≡ a.columns = c.read-row.auto.row ∙ ap (λ n. length (take n (drop a.at a.page.now))) size ∙ long_part a.columns a.at a.page.now c.requires in
-    (c.read-row.new.row, read, put_mid-row a.at (a.at + a.columns - a.at) a.page.now c.read-row.new.row c.read-row.new.row refl (omega arith), long)
+    let read = subst (λ n. Read a.text.now a.cursor.now (take n (drop a.at a.page.now)) c.read_row.result c.read_row.new.row c.read_row.new.cursor) size c.read_row.ensures in
+    let long : length c.read_row.new.row ≡ a.columns = c.read_row.auto.row ∙ ap (λ n. length (take n (drop a.at a.page.now))) size ∙ long_part a.columns a.at a.page.now c.requires in
+    (c.read_row.new.row, read, put_mid-row a.at (a.at + a.columns - a.at) a.page.now c.read_row.new.row c.read_row.new.row refl (omega arith), long)

@@ -10,15 +10,15 @@ use Rattle.text_source.proofs.front.read_front.Goals as goal
 room : (n w len : ℕ) → n < 64 → 64 * w ≤ len → n * w + w ≤ len
 room n w len h l = let m : suc n * w ≤ 64 * w = mul-le-mul_right w h in omega (arith, suc-mul n w)
 
-pub read-at-requires : goal.read-at-requires
-read-at-requires c = room c.loop-rows.rows c.args.columns (length c.loop-rows.page) c.loop-rows-test.true c.loop-rows.invariant.0
+pub read_at-requires : goal.read_at-requires
+read_at-requires c = room c.loop-rows.rows c.args.columns (length c.loop-rows.page) c.loop-rows-test.true c.loop-rows.invariant.0
 
 pub returns-in-End : goal.returns-in-End
 returns-in-End c =
     let k = c.loop-rows in
     let w = c.args.columns in
     let text = c.args.text.now in
-    let l = c.read-at.new in
+    let l = c.read_at.new in
     let h = subst (λ a. ReadAt w (k.rows * w) text k.cursor k.page (Ok a) l.page l.cursor) c.in-End.is c.in-Ok.ensures in
     let s = end_same w (k.rows * w) k.cursor l.cursor text k.page l.page (room k.rows w (length k.page) c.loop-rows-test.true k.invariant.0) h in
     record {
@@ -27,7 +27,7 @@ returns-in-End c =
         brings = k.invariant.1 ∙ (λ i. map good (rows_from k.rows w (sym s.0 i)) ++ items w (drop (sym s.1 i) text));
         stops = (c.loop-rows-test.true, ap (λ n. items w (drop n text)) s.1 ∙ s.2);
       };
-      long = c.read-at.auto.page ∙ c.loop-rows.auto.page;
+      long = c.read_at.auto.page ∙ c.loop-rows.auto.page;
     }
 
 pub returns-in-Err : goal.returns-in-Err
@@ -35,7 +35,7 @@ returns-in-Err c =
     let k = c.loop-rows in
     let w = c.args.columns in
     let text = c.args.text.now in
-    let l = c.read-at.new in
+    let l = c.read_at.new in
     let s = bad_same w (k.rows * w) k.cursor l.cursor text k.page l.page c.in-Err.refusal (room k.rows w (length k.page) c.loop-rows-test.true k.invariant.0) c.in-Err.ensures in
     record {
       filled = record {
@@ -43,7 +43,7 @@ returns-in-Err c =
         brings = k.invariant.1 ∙ (λ i. map good (rows_from k.rows w (sym s.0 i)) ++ items w (drop (sym s.1 i) text));
         stops = (c.loop-rows-test.true, omega (arith, s.1, s.2), subst (λ n. items w (drop n text) ≡ bad c.in-Err.refusal ∷ items w (drop (behind text n) text)) (sym s.1) s.3);
       };
-      long = c.read-at.auto.page ∙ c.loop-rows.auto.page;
+      long = c.read_at.auto.page ∙ c.loop-rows.auto.page;
     }
 
 pub loop-rows-preserved : goal.loop-rows-preserved
@@ -51,9 +51,9 @@ loop-rows-preserved c =
     let k = c.loop-rows in
     let w = c.args.columns in
     let text = c.args.text.now in
-    let l = c.read-at.new in
+    let l = c.read_at.new in
     let h = subst (λ a. ReadAt w (k.rows * w) text k.cursor k.page (Ok a) l.page l.cursor) c.in-Row.is c.in-Ok.ensures in
-    (omega (arith, c.read-at.auto.page), sofar_more w k.rows c.args.cursor.now k.cursor l.cursor text k.page l.page (room k.rows w (length k.page) c.loop-rows-test.true k.invariant.0) k.invariant.1 h)
+    (omega (arith, c.read_at.auto.page), sofar_more w k.rows c.args.cursor.now k.cursor l.cursor text k.page l.page (room k.rows w (length k.page) c.loop-rows-test.true k.invariant.0) k.invariant.1 h)
 
 pub returns : goal.returns
 returns c =

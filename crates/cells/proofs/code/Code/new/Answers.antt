@@ -3,12 +3,12 @@ use Rattle.cells.specs.Codes.{is_code, letters}
 use Rattle.cells.proofs.Packing.{back}
 use Rattle.cells.proofs.code.Code.new.Goals as goal
 
-pub invariant-of-result : goal.invariant-of-result
-invariant-of-result c =
-    let ok : is_code c.args.bytes.now ≡ true = sym c.is-code.ensures ∙ c.if-not-is-code.false in
+pub invariant_of-result : goal.invariant_of-result
+invariant_of-result c =
+    let ok : is_code c.args.bytes.now ≡ true = sym c.is_code.ensures ∙ c.if-not-is_code.false in
     (ap is_code (ap letters c.pack.ensures ∙ back _ ok) ∙ ok, tt)
 
 pub returns : goal.returns
 returns c =
-    let ok : is_code c.args.bytes.now ≡ true = sym c.is-code.ensures ∙ c.if-not-is-code.false in
+    let ok : is_code c.args.bytes.now ≡ true = sym c.is_code.ensures ∙ c.if-not-is_code.false in
     (ok, c.pack.ensures, ap letters c.pack.ensures ∙ back _ ok)

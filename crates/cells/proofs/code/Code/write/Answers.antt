@@ -14,14 +14,14 @@ fact c =
 pub loop-rest-init : goal.loop-rest-init
 loop-rest-init c = (c.told-out, omega arith, omega arith, refl, refl)
 
-pub overflow-cast-out : goal.overflow-cast-out
-overflow-cast-out c = omega arith
+pub overflow_cast-out : goal.overflow_cast-out
+overflow_cast-out c = omega arith
 
 pub bounds-out-n : goal.bounds-out-n
 bounds-out-n c = (fact (goal.at.bounds-out-n c).In-loop-rest).1
 
-pub overflow-add-n : goal.overflow-add-n
-overflow-add-n c = omega (arith, (fact (goal.at.overflow-add-n c).In-loop-rest).1)
+pub overflow_add-n : goal.overflow_add-n
+overflow_add-n c = omega (arith, (fact (goal.at.overflow_add-n c).In-loop-rest).1)
 
 pub loop-rest-smaller : goal.loop-rest-smaller
 loop-rest-smaller c = omega (arith, ap length (fact (goal.at.loop-rest-smaller c).In-loop-rest).0)

@@ -12,6 +12,6 @@ unreachable-requires g c =
 pub returns-clause-writes : goal.returns-clause-writes
 returns-clause-writes g c plain ok =
     let code = c.args.self.now in
-    subst (λ bs. HasWritten g.W.Write.write_str_gives c.args.f.now bs c.write-str.new.self)
+    subst (λ bs. HasWritten g.W.Write.write_str_gives c.args.f.now bs c.write_str.new.self)
     (c.in-Ok.ensures.cases.0 ∙ front-letters code _ _ _ c.write-n.ensures.count c.write-n.ensures.bytes)
-    (c.write-str.ensures.writes plain ok)
+    (c.write_str.ensures.writes plain ok)

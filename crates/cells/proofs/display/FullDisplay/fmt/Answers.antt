@@ -5,6 +5,6 @@ use Rattle.cells.proofs.display.FullDisplay.fmt.Goals as goal
 
 pub returns-in-YesNo-clause-writes : goal.returns-in-YesNo-clause-writes
 returns-in-YesNo-clause-writes g c plain ok =
-    subst (λ bs. HasWritten g.W.Write.write_str_gives c.args.f.now bs c.write-str.new.self)
+    subst (λ bs. HasWritten g.W.Write.write_str_gives c.args.f.now bs c.write_str.new.self)
     (c.word.ensures ∙ sym (ap full_text c.in-YesNo.is))
-    (c.write-str.ensures.writes plain ok)
+    (c.write_str.ensures.writes plain ok)

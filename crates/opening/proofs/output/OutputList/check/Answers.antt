@@ -1,11 +1,11 @@
 use Rattle.opening.proofs.Listing.{legal_made, few_made, columns_made}
 use Rattle.opening.proofs.output.OutputList.check.Goals as goal
 
-pub invariant-of-result : goal.invariant-of-result
-invariant-of-result c =
+pub invariant_of-result : goal.invariant_of-result
+invariant_of-result c =
     let a = c.args in (
-      few_made a.join-type a.left-columns a.right-columns a.columns.now c.in-None.ensures c.new.result c.new.ensures,
-      (legal_made a.join-type a.left-columns a.right-columns a.columns.now c.in-None.ensures c.new.result c.new.ensures, tt),
+      few_made a.join_type a.left_columns a.right_columns a.columns.now c.in-None.ensures c.new.result c.new.ensures,
+      (legal_made a.join_type a.left_columns a.right_columns a.columns.now c.in-None.ensures c.new.result c.new.ensures, tt),
     )
 
 pub returns-in-None : goal.returns-in-None
@@ -15,6 +15,6 @@ returns-in-None c =
       refused = c.in-None.ensures;
       checked = (
         c.new.ensures,
-        columns_made a.join-type a.left-columns a.right-columns a.columns.now c.in-None.ensures c.new.result c.new.ensures,
+        columns_made a.join_type a.left_columns a.right_columns a.columns.now c.in-None.ensures c.new.result c.new.ensures,
       );
     }

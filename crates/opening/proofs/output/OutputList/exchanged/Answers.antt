@@ -4,8 +4,8 @@ use Rattle.opening.specs.Lists.{columns_of, is_legal}
 use Rattle.opening.proofs.Listing.{columns_exchanged, legal_exchanged}
 use Rattle.opening.proofs.output.OutputList.exchanged.Goals as goal
 
-pub invariant-of-result : goal.invariant-of-result
-invariant-of-result c =
+pub invariant_of-result : goal.invariant_of-result
+invariant_of-result c =
     let s = c.args.self in
     let few : ColumnList → Type 0 = λ l. l.count ≤ 32 in
     (subst few (sym c.exchanged.ensures) s.few, (ap is_legal c.exchanged.ensures ∙ legal_exchanged s.list ∙ s.legal, tt))

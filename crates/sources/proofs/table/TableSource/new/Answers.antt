@@ -1,8 +1,8 @@
 use Rattle.std.proofs.Common.{◌*◌, ◌/◌, ◌≤◌, length, mul-le-mul_right, div-mul-le_self, arith}
 use Rattle.sources.proofs.table.TableSource.new.Goals as goal
 
-pub invariant-of-result : goal.invariant-of-result
-invariant-of-result g c =
+pub invariant_of-result : goal.invariant_of-result
+invariant_of-result g c =
     let w = c.args.shape.columns in
     let n = length c.args.cells.now in
     let few : c.min-rows.result * w ≤ n / w * w = mul-le-mul_right w (omega arith) in

@@ -8,18 +8,18 @@ returns-then-self-eq0 g c =
     let none = ended s.shape.batch s.rows s.shape.columns s.cells.now (omega arith) c.if-self-eq0.true in
     record { answer = (omega arith, (none, none)); width = refl }
 
-pub split-at-requires : goal.split-at-requires
-split-at-requires g c =
+pub split_at-requires : goal.split_at-requires
+split_at-requires g c =
     let s = c.args.self.now in
     omega (arith, mul-le-mul_right {m = c.min-count.result} {n = s.rows} s.shape.columns (omega arith))
 
-pub slice-bounds-copy-from-slice-end : goal.slice-bounds-copy-from-slice-end
-slice-bounds-copy-from-slice-end g c =
+pub slice_bounds-copy_from_slice-end : goal.slice_bounds-copy_from_slice-end
+slice_bounds-copy_from_slice-end g c =
     let s = c.args.self.now in
     omega (arith, mul-le-mul_right {m = c.min-count.result} {n = 1024} s.shape.columns (omega arith))
 
-pub invariant-of-self : goal.invariant-of-self
-invariant-of-self g c =
+pub invariant_of-self : goal.invariant_of-self
+invariant_of-self g c =
     let s = c.args.self.now in
     let k = c.min-count.result in
     let w = s.shape.columns in
@@ -31,6 +31,6 @@ pub returns : goal.returns
 returns g c =
     let s = c.args.self.now in
     record {
-      answer = (omega arith, served s.shape.batch s.rows s.shape.columns c.min-count.result s.cells.now _ _ _ (omega arith) (omega arith) (omega arith) (c.copy-from-slice.ensures.after ∙ c.split-at.ensures.front) c.split-at.ensures.back);
+      answer = (omega arith, served s.shape.batch s.rows s.shape.columns c.min-count.result s.cells.now _ _ _ (omega arith) (omega arith) (omega arith) (c.copy_from_slice.ensures.after ∙ c.split_at.ensures.front) c.split_at.ensures.back);
       width = refl;
     }

@@ -10,8 +10,8 @@ returns g c =
     let row = c.args.row.now in
     let wide = c.if-row-self.false in
     let few = c.if-self-ge-MOST-ROWS.false in
-    let put = c.put-row in
-    let took = c.if-not-put-row.false in
+    let put = c.put_row in
+    let took = c.if-not-put_row.false in
     record {
       refused = sym (none_fits t row wide few put.result put.new.page put.ensures.room put.ensures.cells took);
       after = as_added t row wide few put.result put.new.page put.ensures.room put.ensures.cells took;
