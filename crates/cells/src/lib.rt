@@ -1,5 +1,6 @@
 // The kinds of cell that rows are made of (docs/RULES.md, "Kinds of cells").
 #![tactic(auto)]
+
 ghost use Rattle.std.specs.Prelude.{◌≡◌, Bool, true, Decides, ◌≢◌};
 ghost use Rattle.cells.specs.Laws.{CodesStand};
 

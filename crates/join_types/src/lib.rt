@@ -1,5 +1,6 @@
 // The ten join types, the sides of an output list, and what exchanging sides does (docs/RULES.md, "Join types").
 #![tactic(auto)]
+
 ghost use Rattle.join_types.specs.Laws.{TypesStand};
 
 mod column;

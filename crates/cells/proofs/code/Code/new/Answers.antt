@@ -6,7 +6,7 @@ use Rattle.cells.proofs.code.Code.new.Goals as goal
 pub invariant_of-result : goal.invariant_of-result
 invariant_of-result c =
     let ok : is_code c.args.bytes.now ≡ true = sym c.is_code.ensures ∙ c.if-not-is_code.false in
-    (ap is_code (ap letters c.pack.ensures ∙ back _ ok) ∙ ok, tt)
+    record { named = ap is_code (ap letters c.pack.ensures ∙ back _ ok) ∙ ok }
 
 pub returns : goal.returns
 returns c =
