@@ -1,6 +1,7 @@
 // The join on paper: the nested loop, one step of a probe, and what every list of steps promises (docs/RULES.md).
 // Nothing here runs a join: the definitions are in specs/, and each law call names a statement that is proved.
 #![tactic(auto)]
+
 mod answer;
 mod laws;
 

@@ -1,5 +1,6 @@
 // What a join is opened with: the output list and the checked order (docs/RULES.md, "Opening a join").
 #![tactic(auto)]
+
 mod checks;
 mod laws;
 mod list;

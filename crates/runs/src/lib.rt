@@ -1,6 +1,7 @@
 // The promises about lists of actual calls of step: what one call does is in specs/Calls.antt, what links calls to a list in
 // specs/Lists.antt. Nothing here runs a join; each law call names a statement that is proved.
 #![tactic(auto)]
+
 ghost use Rattle.runs.specs.Promised.{RunsHold, RunsGoOn, RunsStay, RunsAgree, RunsMirror, RunsJoin};
 
 use cells::Cell;

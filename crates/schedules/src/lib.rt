@@ -1,5 +1,6 @@
 // Songs from text: two blocks of value lines under a names line (docs/RULES.md, "The clash list program").
 #![tactic(auto)]
+
 mod blocks;
 mod read;
 mod songs;

@@ -1,5 +1,6 @@
 // Sources: what brings rows, one item at a time (docs/RULES.md, "Sources").
 #![tactic(auto)]
+
 mod answer;
 mod drained;
 mod draining;

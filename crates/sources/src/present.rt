@@ -26,19 +26,19 @@ impl<S: Source> Source for Present<S> {
 
     const S: usize = S::S;
 
-    ghost most = { S-as-Source.most };
+    ghost most = { S.Source.most };
 
-    ghost width = { λ s. S-as-Source.width s.inner };
+    ghost width = { λ s. S.Source.width s.inner };
 
-    ghost items = { λ s. map (present S.Cell.Cell.is_missing s.column) (S-as-Source.items s.inner) };
+    ghost items = { λ s. map (present S.Cell.Cell.is_missing s.column) (S.Source.items s.inner) };
 
-    ghost small = { S-as-Source.small };
+    ghost small = { S.Source.small };
 
-    ghost some = { λ s. S-as-Source.some s.inner };
+    ghost some = { λ s. S.Source.some s.inner };
 
-    ghost narrow = { λ s. S-as-Source.narrow s.inner };
+    ghost narrow = { λ s. S.Source.narrow s.inner };
 
-    ghost fits = { λ s. present_fits S.Cell.Cell.is_missing s.column S-as-Source.most (S-as-Source.width s.inner) (S-as-Source.items s.inner) (S-as-Source.fits s.inner) };
+    ghost fits = { λ s. present_fits S.Cell.Cell.is_missing s.column S.Source.most (S.Source.width s.inner) (S.Source.items s.inner) (S.Source.fits s.inner) };
 
     fn largest() -> usize {
         S::largest()

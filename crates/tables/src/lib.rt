@@ -1,5 +1,6 @@
 // The left table: rows are gathered in lent memory, then the table is sealed (docs/RULES.md, "The left table").
 #![tactic(auto)]
+
 mod gathering;
 mod laws;
 mod refusal;

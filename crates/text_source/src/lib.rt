@@ -1,5 +1,6 @@
 // The source over value lines (docs/RULES.md, "Sources").
 #![tactic(auto)]
+
 mod columns;
 mod front;
 mod refusal;

@@ -1,5 +1,6 @@
 // Verdicts: three-valued answers on a left and a right row (docs/RULES.md, "Verdicts").
 #![tactic(auto)]
+
 ghost use Rattle.verdicts.specs.Laws.{SeparationStands, TurnedTwice};
 ghost use Rattle.verdicts.specs.Worked.{WorkedPairs};
 

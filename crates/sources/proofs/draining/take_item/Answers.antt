@@ -12,15 +12,15 @@ slice_bounds-extend_from_slice-end g c =
     let room : source.most * source.width s ≤ length c.ask.new.page = omega (arith, taken.0) in
     omega (arith, batch_room source.most (source.width s) c.in-Batch.rows (source.items s) _ c.ask.new.page (source.fits s) taken.1 _ room, ap (λ w. c.in-Batch.rows * w) c.columns-columns.ensures)
 
-pub returns-in_ok-extend_from_slice : goal.returns-in_ok-extend_from_slice
-returns-in_ok-extend_from_slice g c =
+pub returns-in_ok-extend_from_slice-in-Batch : goal.returns-in_ok-extend_from_slice-in-Batch
+returns-in_ok-extend_from_slice-in-Batch g c =
     let source = g.S.Source in
     let s = c.args.source.now in
     let taken = rw c.in-Batch.is at c.in_ok-answer.ensures.answer in
     let n = c.in-Batch.rows in
     let size : n * c.columns-columns.result - 0 ≡ n * source.width s = omega (arith, ap (λ w. n * w) c.columns-columns.ensures) in
     record {
-      item = (taken.0, took_batch source.most (source.width s) n (source.items s) _ c.ask.new.page _ c.args.brought.now _ (source.fits s) taken.1 (ap (λ k. take k c.ask.new.page) size) c.in_ok-extend_from_slice.ensures.items c.saturating_add-brought.ensures c.saturating_add-brought-in-Batch.ensures refl refl);
+      item = (taken.0, took_batch source.most (source.width s) n (source.items s) _ c.ask.new.page _ c.args.brought.now _ (source.fits s) taken.1 (ap (λ k. take k c.ask.new.page) size) c.in_ok-extend_from_slice-in-Batch.ensures.items c.saturating_add-brought.ensures c.saturating_add-brought-in-Batch.ensures refl refl);
       width = c.in_ok-answer.ensures.width;
     }
 

@@ -5,8 +5,8 @@ use Rattle.sources.proofs.keep.has_cell.Goals as goal
 
 pub returns-then-column-row : goal.returns-then-column-row
 returns-then-column-row g c =
-    ap not c.is_missing.ensures ∙ sym (has_at g.row.C-Cell.is_missing c.args.column c.args.row.now c.index-row-column.result c.if-column-row.true c.index-row-column.is)
+    ap not c.is_missing.ensures ∙ sym (has_at g.C.Cell.is_missing c.args.column c.args.row.now c.index-row-column.result c.if-column-row.true c.index-row-column.is)
 
 pub returns-else-column-row : goal.returns-else-column-row
 returns-else-column-row g c =
-    le-ltb _ _ c.if-column-row.false ∙ sym (has_past g.row.C-Cell.is_missing c.args.column c.args.row.now c.if-column-row.false)
+    le-ltb _ _ c.if-column-row.false ∙ sym (has_past g.C.Cell.is_missing c.args.column c.args.row.now c.if-column-row.false)

@@ -23,14 +23,14 @@ pub copy_within-requires : goal.copy_within-requires
 copy_within-requires g c =
     let low : c.loop-i.count * c.args.columns ≤ c.loop-i.i * c.args.columns = mul-le-mul_right c.args.columns c.loop-i.invariant.behind in
     let here = row_within c.loop-i.i c.args.rows c.args.columns (length c.args.page.now) (omega arith) (omega arith) in
-    record { start-le-end = omega arith; in_bounds = omega arith; dest-in_bounds = omega arith; not-exhausted = tt }
+    record { start_le_end = omega arith; in_bounds = omega arith; dest_in_bounds = omega arith; not_exhausted = tt }
 
 pub loop-i-preserved : goal.loop-i-preserved
 loop-i-preserved g c =
     let a = c.args in
     let i = c.loop-i.i in
     let page = c.loop-i.page in
-    let p = has_cell g.row.C-Cell.is_missing a.column in
+    let p = has_cell g.C.Cell.is_missing a.column in
     let lt : i < a.rows = omega arith in
     let long : length page ≡ length a.page.now = omega arith in
     let told = sym (ap p c.row_at.ensures) ∙ sym c.has_cell.ensures in
@@ -48,7 +48,7 @@ loop-i-preserved g c =
 pub returns : goal.returns
 returns g c =
     let a = c.args in
-    let p = has_cell g.row.C-Cell.is_missing a.column in
+    let p = has_cell g.C.Cell.is_missing a.column in
     let rows = rows_from a.rows a.columns a.page.now in
     let all : take c.loop-i.i rows ≡ rows = take_all c.loop-i.i rows (rw length-rows_from (omega arith)) in
     record { count = c.loop-i.invariant.count ∙ ap (λ r. length (filter p r)) all; front = c.loop-i.invariant.front ∙ ap (λ r. cells_of (filter p r)) all }

@@ -17,6 +17,6 @@ returns-in-Batch g c =
     let taken = rw c.in-Batch.is at c.in_ok-answer.ensures.answer in
     let w-is = c.columns-columns.ensures in
     record {
-      answer = (taken.0, layer_batch source.most (source.width s) c.in-Batch.rows (source.items s) _ c.ask.new.page (source.fits s) taken.1 g.row.S-Cell-Cell.is_missing c.args.self.now.column c.keep_rows-count.result _ (rw w-is at c.keep_rows-count.ensures.count) (rw w-is at c.keep_rows-count.ensures.front));
+      answer = (taken.0, layer_batch source.most (source.width s) c.in-Batch.rows (source.items s) _ c.ask.new.page (source.fits s) taken.1 g.S.Cell.Cell.is_missing c.args.self.now.column c.keep_rows-count.result _ (rw w-is at c.keep_rows-count.ensures.count) (rw w-is at c.keep_rows-count.ensures.front));
       width = c.in_ok-answer.ensures.width;
     }

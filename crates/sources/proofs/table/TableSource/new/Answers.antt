@@ -6,4 +6,4 @@ invariant_of-result g c =
     let w = c.args.shape.columns in
     let n = length c.args.cells.now in
     let few : c.min-rows.result * w ≤ n / w * w = mul-le-mul_right w (omega arith) in
-    (omega (arith, div-mul-le_self n w), tt)
+    record { whole = omega (arith, div-mul-le_self n w) }

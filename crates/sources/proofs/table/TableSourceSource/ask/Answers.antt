@@ -25,7 +25,7 @@ invariant_of-self g c =
     let w = s.shape.columns in
     let all : s.rows - k + k ≡ s.rows = omega arith in
     let split : (s.rows - k) * w + k * w ≡ s.rows * w = sym (add-mul (s.rows - k) k w) ∙ ap (λ j. j * w) all in
-    (omega arith, tt)
+    record { whole = omega arith }
 
 pub returns : goal.returns
 returns g c =

@@ -9,7 +9,7 @@ returns g c =
     let t = table s.columns s.rows c.args.memory.now in
     let row = c.args.row.now in
     let wide = c.if-row-self.false in
-    let few = c.if-self-ge-MOST-ROWS.false in
+    let few = c.if-self-ge-MOST_ROWS.false in
     let put = c.put_row in
     let took = c.if-not-put_row.false in
     record {
