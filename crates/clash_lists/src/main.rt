@@ -1,11 +1,13 @@
 // Clash lists from two texts: reads the schedule and the log from standard input, and prints both lists and what changed.
 #![tactic(auto)]
+
 use anyhow::anyhow;
 use clashes::{InputError, clash_lists, read_minutes};
 use reports::report;
 use schedules::SongError;
 use std::env;
 use std::io::Read;
+use std::process::ExitCode;
 use verdicts::Minutes;
 
 // The two separations to compare.
@@ -15,12 +17,12 @@ pub struct Separations {
     pub second: Minutes,
 }
 
-fn main(rt: HostRuntime) -> anyhow::Result<()> {
+fn main(rt: HostRuntime) -> anyhow::Result<ExitCode> {
     match run(&rt) {
-        Ok(()) => Ok(()),
+        Ok(()) => Ok(ExitCode::SUCCESS),
         Err(error) => {
             eprintln!(rt; "clash_lists: {error}")?;
-            Err(error)
+            Ok(ExitCode::FAILURE)
         }
     }
 }
@@ -74,7 +76,7 @@ fn minutes(rt: &HostRuntime, text: &str) -> anyhow::Result<Minutes> {
             let told = format!(in rt.alloc();
                 "'{text}' is refused with {number}: a separation is a number of minutes from 1 to 1440"
             )?;
-            Err(told.into())
+            Err(anyhow!("{told}"))
         }
     }
 }
@@ -84,7 +86,7 @@ fn words(rt: &HostRuntime, error: InputError) -> anyhow::Result<anyhow::Error> {
     match error {
         InputError::Schedule(error) => block_words(rt, "the schedule", "on line 1", error),
         InputError::Log(error) => block_words(rt, "the log", "behind the first empty line", error),
-        InputError::NoMemory => Ok("there is not enough memory".into()),
+        InputError::NoMemory => Ok(anyhow!("there is not enough memory")),
     }
 }
 
@@ -103,5 +105,5 @@ fn block_words(
         }
         _ => String::from_str(rt.alloc(), "there is not enough memory")?,
     };
-    Ok(told.into())
+    Ok(anyhow!("{told}"))
 }

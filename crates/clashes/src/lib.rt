@@ -1,5 +1,6 @@
 // Clash lists: the pairs of two tables that a verdict finds true (docs/RULES.md, "The clash list program").
 #![tactic(auto)]
+
 mod answer;
 mod layer;
 mod lists;

@@ -1,5 +1,6 @@
 // Tests of the edge cases of docs/RULES.md, over the crates that read text and make clash lists.
 #![tactic(auto)]
+
 #[cfg(test)]
 mod asked;
 #[cfg(test)]

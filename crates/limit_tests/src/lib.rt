@@ -1,5 +1,6 @@
 // Tests of pages, marks, the left table and sources at their limits (docs/RULES.md, "Pages", "The left table" and "Sources").
 #![tactic(auto)]
+
 #[cfg(test)]
 mod common;
 #[cfg(test)]

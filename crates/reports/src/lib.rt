@@ -1,5 +1,6 @@
 // What the clash list program prints (docs/RULES.md, "The clash list program").
 #![tactic(auto)]
+
 mod section;
 mod whole;
 

@@ -8,7 +8,7 @@ pub invariant_of-result : goal.invariant_of-result
 invariant_of-result c =
     let s = c.args.self in
     let few : ColumnList → Type 0 = λ l. l.count ≤ 32 in
-    (subst few (sym c.exchanged.ensures) s.few, (ap is_legal c.exchanged.ensures ∙ legal_exchanged s.list ∙ s.legal, tt))
+    record { few = subst few (sym c.exchanged.ensures) s.few; legal = ap is_legal c.exchanged.ensures ∙ legal_exchanged s.list ∙ s.legal }
 
 pub returns : goal.returns
 returns c = record { list = c.exchanged.ensures; columns = ap columns_of c.exchanged.ensures ∙ columns_exchanged c.args.self.list }
