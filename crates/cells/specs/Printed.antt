@@ -1,5 +1,5 @@
 -- What is printed of a cell.
-use Rattle.std.specs.Prelude.{ℕ, Bool, true, false, cond, List, [], codes, decimal}
+use Rattle.std.specs.Prelude.{ℕ, Bool, cond, List, [], codes, decimal}
 use Rattle.std.specs.Fmt.{signed_decimal}
 use Rattle.cells.specs.Codes.{letters}
 use Rattle.cells.specs.declared.full.Full.{Full}

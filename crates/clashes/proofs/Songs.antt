@@ -1,5 +1,5 @@
 -- Songs in memory, as rows of two cells.
-use Rattle.std.proofs.Common.{◌≡◌, ℕ, ◌*◌, ◌/◌, ◌%◌, List, length, sym, ap, ◌∙◌, arith}
+use Rattle.std.proofs.Common.{◌≡◌, ℕ, ◌*◌, ◌/◌, ◌%◌, List, length, ap, ◌∙◌, arith}
 use Rattle.cells.specs.declared.full.Full.{Full}
 use Rattle.memory.specs.Rows.{rows_from}
 use Rattle.memory.proofs.Cuts.{length_cells, rows_back}

@@ -1,5 +1,5 @@
 -- The pairs of two tables that a verdict finds true, by row number.
-use Rattle.std.specs.Prelude.{ℕ, Bool, true, false, not, ◌&&◌, ◌||◌, List, [], ◌∷◌, map, length, filter, ◌==◌, slice_index_or}
+use Rattle.std.specs.Prelude.{ℕ, Bool, false, not, ◌&&◌, ◌||◌, List, [], ◌∷◌, map, length, filter, ◌==◌, slice_index_or}
 use Rattle.std.specs.List.{range_with_len, flat_map}
 use Rattle.verdicts.specs.declared.truth.Truth.{Truth}
 use Rattle.verdicts.specs.Truths.{is_true, truth_of}

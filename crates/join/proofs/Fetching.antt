@@ -1,26 +1,21 @@
 -- What a probe that fetches makes of the item that its source answers.
-use Rattle.std.proofs.Common.{◌≡◌, ℕ, suc, ◌+◌, ◌*◌, ◌<◌, ◌≤◌, max, Bool, List, [], ◌∷◌, ◌++◌, length, take, replicate, sym, refl, ap, ◌∙◌, subst, ap₂, arith}
+use Rattle.std.proofs.Common.{◌≡◌, ℕ, suc, ◌<◌, max, Bool, List, [], ◌∷◌, length, take, replicate, sym, refl, ap, ◌∙◌, ap₂, arith}
 use Rattle.std.specs.List.{AllByRecursion as All}
-use Rattle.memory.specs.Items.{Item, batch, wait, fault}
+use Rattle.memory.specs.Items.{Item, batch}
 use Rattle.memory.specs.Marks.{bits_of}
 use Rattle.memory.specs.Rows.{rows_from, cells_of}
 use Rattle.memory.proofs.Taken.{rows_on_page}
 use Rattle.nested_loop.specs.Model.{Setup, counted}
-use Rattle.nested_loop.specs.Machine.{State, FetchingRight, ProbeRight, no_marks, fetching_right, taken_after}
+use Rattle.nested_loop.specs.Machine.{ProbeRight, no_marks, fetching_right, taken_after}
 use Rattle.nested_loop.specs.declared.answer.NLJState.{NLJState}
 use Rattle.nested_loop.specs.declared.answer.NLJState.TheVariants as nlj
 use Rattle.nested_loop.specs.declared.answer.Answer.{Answer}
-use Rattle.nested_loop.specs.declared.answer.Answer.TheVariants.{On, Wait, Fault}
-use Rattle.sources.specs.Fits.{Fits}
-use Rattle.sources.specs.Asked.{Taken}
-use Rattle.sources.specs.declared.answer.SourceAnswer.{SourceAnswer}
-use Rattle.sources.specs.declared.answer.SourceAnswer.TheVariants as source
-use Rattle.runs.specs.Calls.{state_of, largest_after, Unread}
+use Rattle.nested_loop.specs.declared.answer.Answer.TheVariants.{On}
+use Rattle.runs.specs.Calls.{state_of, largest_after}
 use Rattle.opening.specs.declared.plan.Plan.{Plan}
 use Rattle.join.specs.declared.record.Probe.{Probe}
 use Rattle.join.specs.View.{probe_view, state_at}
 use Rattle.join.specs.Handled.{around, waiting_rows, Handles}
-use Rattle.join.specs.Sound.{Sound, room_of}
 use Rattle.join.proofs.Quiet.{no_rows, or-none, bits_clear}
 
 module _ {C : Type 0} (plan : Plan) (who most : ℕ) (p : Probe) (is : p.state ≡ nlj.FetchingRight) (T : Setup C) (marks : List ℕ) (n : ℕ) (waiting out right right' : List C) (rest : List (Item C))

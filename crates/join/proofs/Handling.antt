@@ -1,9 +1,8 @@
 -- What every handler shares: the handler of a known state, rows that are delivered, and a step that writes nothing.
-use Rattle.std.proofs.Common.{◌≡◌, ℕ, ◌+◌, ◌-◌, ◌*◌, ◌<◌, ◌≤◌, Bool, true, false, List, [], ◌∷◌, ◌++◌, length, take, drop, Ok, Result, sym, refl, ap, ◌∙◌, subst, ap₂, arith}
+use Rattle.std.proofs.Common.{◌≡◌, ℕ, ◌-◌, ◌*◌, ◌≤◌, Bool, List, ◌++◌, length, take, drop, Ok, sym, refl, ap, ◌∙◌, subst}
 use Rattle.memory.specs.Items.{Item}
 use Rattle.memory.specs.Marks.{bits_of}
-use Rattle.memory.specs.Rows.{rows_from, cells_of}
-use Rattle.memory.proofs.Cuts.{length-rows_from}
+use Rattle.memory.specs.Rows.{cells_of}
 use Rattle.join_types.specs.Types.{row_of}
 use Rattle.join_types.specs.declared.kind.JoinType.{JoinType}
 use Rattle.join_types.specs.declared.kind.JoinType.TheVariants.{Inner, Left, Right, Full, LeftSemi, RightSemi, LeftAnti, RightAnti, LeftMark, RightMark}
@@ -13,7 +12,6 @@ use Rattle.nested_loop.specs.declared.answer.NLJState.{NLJState}
 use Rattle.nested_loop.specs.declared.answer.NLJState.TheVariants as nlj
 use Rattle.nested_loop.specs.declared.answer.Answer.{Answer}
 use Rattle.nested_loop.specs.declared.answer.Answer.TheVariants.{On, Batch}
-use Rattle.nested_loop.specs.declared.answer.StepRefusal.{StepRefusal}
 use Rattle.opening.specs.declared.plan.Plan.{Plan}
 use Rattle.runs.specs.Records.{ProbeView}
 use Rattle.runs.specs.Calls.{state_of, largest_after, Unread}

@@ -1,12 +1,12 @@
 -- Left rows joined with the right batch, as the model meets them.
-use Rattle.std.proofs.Common.{◌≡◌, ℕ, ◌+◌, ◌-◌, ◌*◌, ◌/◌, ◌<◌, ◌≤◌, min, max, Bool, true, false, cond, ltb, List, [], ◌∷◌, ◌++◌, map, length, take, drop, sym, refl, ap, ◌∙◌, subst, ap₂, mul-le-mul_right, one-mul, arith}
+use Rattle.std.proofs.Common.{◌≡◌, ℕ, ◌+◌, ◌-◌, ◌*◌, ◌/◌, ◌<◌, ◌≤◌, min, max, Bool, true, false, cond, ltb, List, ◌++◌, map, length, take, drop, sym, refl, ap, ◌∙◌, subst, ap₂, mul-le-mul_right, one-mul, arith}
 use Rattle.std.proofs.lemmas.Nat.{div-add-mod'}
 use Rattle.memory.specs.Items.{Item}
 use Rattle.memory.specs.Marks.{bits_of}
 use Rattle.memory.specs.Rows.{rows_from}
 use Rattle.nested_loop.specs.Model.{Setup}
 use Rattle.nested_loop.specs.Loop.{left_matched, right_matched, pairs}
-use Rattle.nested_loop.specs.Machine.{State, ProbeRight, meet, rows_met, or_marks, from_row}
+use Rattle.nested_loop.specs.Machine.{ProbeRight, meet, rows_met, or_marks, from_row}
 use Rattle.nested_loop.specs.declared.answer.NLJState.{NLJState}
 use Rattle.nested_loop.specs.declared.answer.NLJState.TheVariants as nlj
 use Rattle.nested_loop.specs.declared.answer.Answer.TheVariants.{On}
@@ -14,7 +14,7 @@ use Rattle.opening.specs.declared.plan.Plan.{Plan}
 use Rattle.probing.specs.Met.{met_of, MetRows}
 use Rattle.runs.specs.Calls.{state_of, Unread}
 use Rattle.join.specs.declared.record.Probe.{Probe}
-use Rattle.join.specs.View.{probe_view, state_at}
+use Rattle.join.specs.View.{probe_view}
 use Rattle.join.specs.Handled.{around, waiting_rows, rows_joined, Handles}
 use Rattle.join.proofs.Quiet.{no_rows, or-none}
 use Rattle.join.proofs.Handling.{taken_is, largest_is}

@@ -1,5 +1,5 @@
 -- What a handler does to its probe and to what lies around it.
-use Rattle.std.specs.Prelude.{◌≡◌, ℕ, ◌+◌, ◌-◌, ◌*◌, ◌/◌, min, Bool, true, cond, ◌||◌, List, ◌++◌, length, drop, Ok, nat_lt}
+use Rattle.std.specs.Prelude.{◌≡◌, ℕ, ◌-◌, ◌*◌, ◌/◌, min, true, cond, ◌||◌, List, ◌++◌, length, drop, Ok, nat_lt}
 use Rattle.memory.specs.Items.{Item}
 use Rattle.memory.specs.Marks.{bits_of}
 use Rattle.memory.specs.Rows.{rows_from, cells_of}

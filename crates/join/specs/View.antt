@@ -1,5 +1,5 @@
 -- The join's records as contracts show them.
-use Rattle.std.specs.Prelude.{ℕ, List, map, take}
+use Rattle.std.specs.Prelude.{List, map, take}
 use Rattle.memory.specs.Marks.{bits_of}
 use Rattle.memory.specs.Rows.{rows_from}
 use Rattle.verdicts.specs.declared.truth.Truth.{Truth}

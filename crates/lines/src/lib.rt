@@ -1,5 +1,6 @@
 // Rows from lines of text, and back (docs/RULES.md, "Lines of text").
 #![tactic(auto)]
+
 mod cell;
 mod guard;
 mod laws;

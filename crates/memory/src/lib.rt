@@ -1,5 +1,6 @@
 // Rows and marks in lent memory: tables, pages and output rows (docs/RULES.md, "The left table", "Pages").
 #![tactic(auto)]
+
 mod marks;
 mod output;
 mod page;

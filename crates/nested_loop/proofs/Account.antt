@@ -1,5 +1,5 @@
 -- The exact account of a probe's steps, from which the bound follows.
-use Rattle.std.proofs.Common.{ℕ, ◌+◌, Bool, true, false, cond, ◌&&◌, List, [], ◌∷◌, ◌++◌, length}
+use Rattle.std.proofs.Common.{ℕ, ◌+◌, Bool, cond, ◌&&◌, List, [], ◌∷◌, length}
 use Rattle.nested_loop.specs.Model.{Setup, Item, batch, wait, fault, left_rest_of, right_rest_of, some_rest}
 use Rattle.nested_loop.specs.Machine.{Outcome, is_done, group}
 use Rattle.nested_loop.specs.Said.{ceil}

@@ -1,11 +1,11 @@
 -- The promise about every run of the model.
-use Rattle.std.proofs.Common.{◌≡◌, ℕ, suc, ◌≤◌, List, [], ◌∷◌, ◌++◌, map, length, sym, refl, ap, ◌∙◌, arith}
+use Rattle.std.proofs.Common.{◌≡◌, ℕ, suc, ◌≤◌, List, [], ◌∷◌, ◌++◌, map, length, ap, ◌∙◌, arith}
 use lib.ListN.{length-map}
-use Rattle.nested_loop.specs.Model.{Setup, Item}
-use Rattle.nested_loop.specs.Machine.{opened, fresh, after, Join, Probe}
-use Rattle.nested_loop.specs.Said.{Stands, Upheld, ProbeUpheld, Finished, seen}
+use Rattle.nested_loop.specs.Model.{Item}
+use Rattle.nested_loop.specs.Machine.{opened, fresh, after, Join}
+use Rattle.nested_loop.specs.Said.{Stands, ProbeUpheld, Finished, seen}
 use Rattle.nested_loop.proofs.Spots.{named, named_open}
-use Rattle.nested_loop.proofs.Whole.{total, lives}
+use Rattle.nested_loop.proofs.Whole.{total}
 use Rattle.nested_loop.proofs.Time
 use Rattle.nested_loop.proofs.Cuts
 use Rattle.nested_loop.proofs.Turns

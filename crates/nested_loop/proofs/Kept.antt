@@ -1,7 +1,4 @@
 -- Each promise, from what holds of every run.
-use Rattle.std.proofs.Common.{ℕ, List}
-use Rattle.nested_loop.specs.Model.{Setup, Item}
-use Rattle.nested_loop.specs.Bags.{Tables}
 use Rattle.nested_loop.specs.Promises.{NeverMoreOften, ExactlyWhenFinished, WithinCuts, WithinBound, NoticesCome, IsTallied, Mirrors, OfTwoBags, IsJoinedTable}
 use Rattle.nested_loop.proofs.All.{stands}
 use Rattle.nested_loop.proofs.Iso.{tables}

@@ -1,9 +1,9 @@
 -- The waits and faults that a probe answers are its source's.
-use Rattle.std.proofs.Common.{◌≡◌, ℕ, zero, suc, ◌+◌, ◌<◌, ◌≤◌, Bool, true, false, cond, ◌&&◌, ◌||◌, eqb, ltb, leb, List, [], ◌∷◌, ◌++◌, map, length, Ok, Err, Result, sym, refl, ap, ◌∙◌, subst, ap₂, append_assoc, append-nil, arith}
+use Rattle.std.proofs.Common.{◌≡◌, ℕ, Bool, true, false, cond, ◌&&◌, eqb, ltb, leb, List, [], ◌∷◌, ◌++◌, map, length, Ok, Err, Result, sym, refl, ap, ◌∙◌, append_assoc}
 use Rattle.std.proofs.lemmas.Bool.{eqb-true, eqb-false}
-use Rattle.nested_loop.specs.Model.{Setup, Item, batch, wait, fault, some_rest, right_rest_of, left_rest_of, counted}
+use Rattle.nested_loop.specs.Model.{Setup, Item, batch, wait, fault, some_rest, right_rest_of, left_rest_of}
 use Rattle.nested_loop.specs.Loop.{any}
-use Rattle.nested_loop.specs.Machine.{Outcome, refused, on, delivers, waits, faults, says_done, State, FetchingRight, ProbeRight, EmitRightUnmatched, ProbeEnd, EmitLeftUnmatched, Done, Handled, Probe, is_done, handle, probe_right, Join, Spot, nowhere, at, spot, step_at, step, become, taken_after, told, told_of, answers_of, after, opened, fresh, emit_right_unmatched, emit_left_unmatched, Answer, On, Batch, Wait, Fault, IsDone, StepRefusal}
+use Rattle.nested_loop.specs.Machine.{State, FetchingRight, ProbeRight, EmitRightUnmatched, ProbeEnd, EmitLeftUnmatched, Done, Probe, is_done, handle, probe_right, Join, Spot, nowhere, at, spot, step_at, become, taken_after, told, told_of, answers_of, after, opened, fresh, emit_right_unmatched, emit_left_unmatched, Answer, On, Batch, Wait, Fault, IsDone, StepRefusal}
 use Rattle.nested_loop.specs.Said.{notices, notices_from}
 use Rattle.nested_loop.proofs.Spots.{named, Tells, spot_tells}
 use Rattle.nested_loop.proofs.Turns.{heard_done}

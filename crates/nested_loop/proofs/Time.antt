@@ -1,13 +1,13 @@
 -- The steps a probe has yet to take, exactly: each step that is not done takes one, and a batch adds one.
-use Rattle.std.proofs.Common.{◌≡◌, ℕ, zero, suc, ◌+◌, ◌-◌, ◌*◌, ◌/◌, ◌<◌, ◌≤◌, min, Bool, true, false, cond, ◌&&◌, ◌||◌, eqb, ltb, leb, ◌⊎◌, List, [], ◌∷◌, ◌++◌, map, length, take, drop, sym, refl, ap, ◌∙◌, subst, ap₂, inl, inr, mul-le-mul_right, suc-mul, mul_comm, div-le_self, div-one, arith, length-take}
+use Rattle.std.proofs.Common.{◌≡◌, ℕ, zero, suc, ◌+◌, ◌-◌, ◌*◌, ◌/◌, ◌<◌, ◌≤◌, min, Bool, true, false, cond, ◌&&◌, ◌||◌, eqb, ltb, leb, ◌⊎◌, List, [], ◌∷◌, ◌++◌, length, take, sym, refl, ap, ◌∙◌, subst, ap₂, inl, inr, mul-le-mul_right, suc-mul, mul_comm, arith}
 use native.Mathlib.Nat.{div-eq-sub-div, div-eq_of_lt, sub-zero, div-le_of_le-mul}
-use Rattle.std.proofs.lemmas.Bool.{leb-true, leb-false, ltb-true, ltb-false, cases_lt, cases_Bool, eqb-true, eqb-false, eq-eqb, ne_eqb, le-leb, or_right, or_cases}
+use Rattle.std.proofs.lemmas.Bool.{ltb-true, ltb-false, cases_lt, eqb-true, eqb-false, ne_eqb, or_right}
 use Rattle.nested_loop.specs.Model.{Setup, Item, batch, wait, fault, some_rest, right_rest_of, left_rest_of}
 use Rattle.nested_loop.specs.Loop.{any}
-use Rattle.nested_loop.specs.Machine.{Outcome, refused, on, delivers, waits, faults, says_done, State, FetchingRight, ProbeRight, EmitRightUnmatched, ProbeEnd, EmitLeftUnmatched, Done, Handled, Probe, is_done, is_batch, handle, probe_right, rows_met, group, is_one, is_zero, lower, Join, Spot, nowhere, at, spot, step_at, step, become, answers_of, emitter, opened, fresh, emit_right_unmatched, emit_left_unmatched, flush}
+use Rattle.nested_loop.specs.Machine.{Outcome, State, FetchingRight, ProbeRight, EmitRightUnmatched, ProbeEnd, EmitLeftUnmatched, Done, Handled, Probe, is_done, is_batch, handle, probe_right, rows_met, group, is_one, is_zero, lower, Join, Spot, nowhere, at, spot, step_at, step, become, answers_of, emitter, fresh, emit_right_unmatched, emit_left_unmatched, flush}
 use Rattle.nested_loop.specs.Said.{ceil, full_batches, batches_in, bound}
 use Rattle.nested_loop.proofs.Account.{up_to_done, probe_steps, steps}
-use Rattle.nested_loop.proofs.Spots.{named, Tells, spot_tells, named_open}
+use Rattle.nested_loop.proofs.Spots.{named, Tells, spot_tells}
 use Rattle.nested_loop.proofs.Whole.{live, live-step, still, is_probe_end, count_same}
 
 -- one group less

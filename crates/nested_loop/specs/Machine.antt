@@ -1,7 +1,7 @@
 -- The join as a machine: one step of a probe, and a run over turns.
 use Rattle.std.specs.Prelude.{ℕ, zero, suc, ◌+◌, ◌-◌, ◌*◌, ◌/◌, min, Bool, true, false, cond, ◌&&◌, ◌||◌, List, [], ◌∷◌, ◌++◌, map, length, take, drop, Ok, Err, Result, ◌==◌, nat_le, nat_lt}
-use Rattle.nested_loop.specs.Model.{Setup, Item, batch, wait, fault, Rest, left_rest_of, right_rest_of, some_rest, counted}
-use Rattle.nested_loop.specs.Loop.{is_pair, left_matched, right_matched, pairs, right_rest, left_rest}
+use Rattle.nested_loop.specs.Model.{Setup, Item, batch, wait, fault, left_rest_of, right_rest_of, some_rest, counted}
+use Rattle.nested_loop.specs.Loop.{left_matched, right_matched, pairs, right_rest, left_rest}
 pub use Rattle.nested_loop.specs.declared.answer.Answer.{Answer}
 pub use Rattle.nested_loop.specs.declared.answer.Answer.TheVariants.{On, Batch, Wait, Fault, Done as IsDone}
 pub use Rattle.nested_loop.specs.declared.answer.Faulted.{Faulted}

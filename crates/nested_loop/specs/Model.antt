@@ -1,5 +1,5 @@
 -- What a join is opened with, its rests, and counts that stop.
-use Rattle.std.specs.Prelude.{ℕ, ◌+◌, min, Bool, true, false, not, List, [], ◌∷◌, ◌++◌, map, get_or}
+use Rattle.std.specs.Prelude.{ℕ, min, Bool, true, false, not, List}
 pub use Rattle.join_types.specs.declared.kind.JoinType.{JoinType}
 pub use Rattle.join_types.specs.declared.kind.JoinType.TheVariants.{Inner, Left, Right, Full, LeftSemi, LeftAnti, LeftMark, RightSemi, RightAnti, RightMark}
 pub use Rattle.join_types.specs.declared.kind.Rest.{Rest}

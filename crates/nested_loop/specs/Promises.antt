@@ -1,5 +1,5 @@
 -- What is promised of every list of steps from a freshly opened join, one statement each.
-use Rattle.std.specs.Prelude.{◌≡◌, ℕ, suc, ◌+◌, ◌-◌, ◌*◌, ◌≤◌, max, true, cond, List, [], ◌∷◌, ◌++◌, map, length, take, ◌==◌}
+use Rattle.std.specs.Prelude.{◌≡◌, ℕ, suc, ◌+◌, ◌-◌, ◌*◌, ◌≤◌, max, true, cond, List, [], ◌∷◌, ◌++◌, length, take, ◌==◌}
 use Rattle.std.specs.List.Sorted.{IsPermutation}
 use Rattle.std.specs.List.{flat_map, AllByRecursion as All}
 use Rattle.nested_loop.specs.Model.{Setup, Item, counted}

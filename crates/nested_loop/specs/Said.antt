@@ -1,10 +1,10 @@
 -- What is seen of a run, and all that is promised of it, together. Promises.antt has each promise by itself.
-use Rattle.std.specs.Prelude.{◌≡◌, ℕ, zero, suc, ◌+◌, ◌-◌, ◌*◌, ◌/◌, ◌<◌, ◌≤◌, max, Bool, true, false, cond, not, ◌&&◌, List, [], ◌∷◌, ◌++◌, map, length, take, Ok, Err, Result, ◌==◌}
+use Rattle.std.specs.Prelude.{◌≡◌, ℕ, suc, ◌+◌, ◌-◌, ◌*◌, ◌/◌, ◌≤◌, max, Bool, true, cond, List, [], ◌∷◌, ◌++◌, length, take, Ok, Err, Result, ◌==◌}
 use Rattle.std.specs.List.Sorted.{IsPermutation}
 use Rattle.std.specs.List.{flat_map, AllByRecursion as All}
-use Rattle.nested_loop.specs.Model.{Setup, Truth, JoinType, ColumnIndex, Item, batch, wait, fault, left_rest_of, right_rest_of, some_rest, counted}
+use Rattle.nested_loop.specs.Model.{Setup, Item, batch, wait, fault, counted}
 use Rattle.nested_loop.specs.Loop.{any, right_rows, nested, item_rows, left_rest_rows}
-use Rattle.nested_loop.specs.Machine.{Outcome, refused, on, delivers, waits, faults, says_done, is_done, is_batch, rows_in, group, opened, after, answers, answers_of, told_of, emitter, Join, Tally, all_probes_done, waiting_at, Answer, On, Batch, Wait, Fault, IsDone, StepRefusal}
+use Rattle.nested_loop.specs.Machine.{Outcome, refused, on, delivers, waits, faults, says_done, is_done, is_batch, rows_in, opened, after, answers, answers_of, told_of, emitter, Join, Tally, all_probes_done, waiting_at, Answer, On, Batch, Wait, Fault, IsDone, StepRefusal}
 
 -- how many of the items are batches that have a row
 abbrev pub full_batches : {C : Type 0} → List (Item C) → ℕ

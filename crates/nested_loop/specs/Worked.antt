@@ -1,12 +1,12 @@
 -- The worked schedule, over the real cells and the real separation (docs/RULES.md, "The worked schedule").
-use Rattle.std.specs.Prelude.{◌≡◌, ℕ, Bool, true, false, List, [], ◌∷◌, ◌++◌, replicate, Ok}
+use Rattle.std.specs.Prelude.{◌≡◌, ℕ, true, false, List, [], ◌∷◌, ◌++◌, replicate, Ok}
 use Rattle.std.specs.List.{flat_map}
 use Rattle.cells.specs.declared.full.Full.{Full}
 use Rattle.cells.specs.declared.full.Full.TheVariants.{Missing, YesNo}
 use Rattle.verdicts.specs.Worked.{WorkedPairs, apart_by, l0, l1, l2, r0, r1, r2}
 use Rattle.nested_loop.specs.Model.{Setup, Item, batch, wait, fault, JoinType, Inner, Left, Full as FullJoin, LeftMark, RightAnti, ColumnIndex, LeftSide, RightSide, MarkSide}
 use Rattle.nested_loop.specs.Loop.{nested}
-use Rattle.nested_loop.specs.Machine.{opened, after, all_probes_done, emitter, answers, answers_of, told_of, rows_met, Outcome, on, delivers, says_done, rows_in, Answer, On, Wait, Fault}
+use Rattle.nested_loop.specs.Machine.{opened, after, all_probes_done, emitter, answers, answers_of, told_of, rows_met, on, delivers, says_done, rows_in, On, Wait, Fault}
 use Rattle.nested_loop.specs.Said.{bound}
 
 -- a join of the planned songs under a separation

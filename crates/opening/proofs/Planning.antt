@@ -1,11 +1,11 @@
 -- What is known of the plan of a checked order.
-use Rattle.std.proofs.Common.{◌≡◌, ℕ, ◌<◌, ◌≤◌, true, arith}
+use Rattle.std.proofs.Common.{◌≡◌, ℕ, ◌<◌, true, arith}
 use Rattle.std.specs.List.{AllByRecursion as All}
 use Rattle.std.proofs.lemmas.Bool.{and_parts, ltb-true}
 use Rattle.join_types.specs.declared.column.JoinSide.{JoinSide}
 use Rattle.join_types.specs.declared.column.JoinSide.TheVariants.{Left, Right, None}
 use Rattle.opening.specs.declared.list.ColumnList.{ColumnList}
-use Rattle.opening.specs.Lists.{columns_of, side_has, is_there, are_few, are_there, are_allowed, is_legal}
+use Rattle.opening.specs.Lists.{columns_of, side_has, is_there, are_few, are_there, is_legal}
 use Rattle.opening.proofs.Passing.{all_from_pass}
 
 left_has : (left right : ℕ) (s : JoinSide) (n : ℕ) → side_has left right s n ≡ true → s ≡ Left → n < left

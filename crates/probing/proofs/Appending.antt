@@ -1,9 +1,9 @@
 -- A row written behind the waiting rows, where there is room.
-use Rattle.std.proofs.Common.{◌≡◌, ℕ, suc, ◌+◌, ◌*◌, ◌<◌, ◌≤◌, min, Bool, true, false, cond, leb, List, [], ◌∷◌, ◌++◌, length, sym, refl, ap, ◌∙◌, subst, ap₂, mul-le-mul_right, suc-mul, arith}
+use Rattle.std.proofs.Common.{◌≡◌, ℕ, suc, ◌+◌, ◌*◌, ◌≤◌, Bool, true, false, cond, leb, List, [], ◌∷◌, ◌++◌, length, sym, ap, ◌∙◌, subst, mul-le-mul_right, suc-mul, arith}
 use Rattle.std.proofs.lemmas.Bool.{cond-true, le-leb}
-use Rattle.memory.specs.Rows.{rows_from, put_row}
+use Rattle.memory.specs.Rows.{put_row}
 use Rattle.memory.proofs.Pages.{rows_put, length-put_row}
-use Rattle.nested_loop.specs.Model.{counted, limit}
+use Rattle.nested_loop.specs.Model.{counted}
 use Rattle.probing.specs.Lent.{Waiting, waiting_of, waiting_rows, appended, HasRoom}
 
 module _ {C : Type 0} (width : ℕ) where

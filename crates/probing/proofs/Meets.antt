@@ -1,5 +1,5 @@
 -- Pairs met one by one are the nested loop's pairs.
-use Rattle.std.proofs.Common.{◌≡◌, ℕ, zero, suc, ◌+◌, ◌-◌, ◌*◌, ◌/◌, ◌<◌, ◌≤◌, min, Bool, true, false, cond, ◌&&◌, ◌||◌, List, [], ◌∷◌, ◌++◌, map, length, take, drop, set, sym, refl, ap, ◌∙◌, ap₂, append_assoc, append-nil, mul-le-mul_right, suc-mul, zero-mul, add-one, arith}
+use Rattle.std.proofs.Common.{◌≡◌, ℕ, zero, suc, ◌+◌, ◌-◌, ◌*◌, ◌<◌, ◌≤◌, min, Bool, true, false, cond, ◌&&◌, ◌||◌, List, [], ◌∷◌, ◌++◌, map, length, drop, set, sym, refl, ap, ◌∙◌, append_assoc, append-nil, mul-le-mul_right, suc-mul, add-one, arith}
 use Rattle.std.specs.List.{flat_map}
 use Rattle.std.proofs.lemmas.List.{set-set, length-set, length-map, length-take, length-drop}
 use Rattle.memory.specs.Marks.{marked, bits_of}
@@ -9,7 +9,7 @@ use Rattle.nested_loop.specs.Model.{Setup, has_pairs}
 use Rattle.nested_loop.specs.Loop.{is_pair, output_row, pair_of, pairs, left_matched, right_matched}
 use Rattle.nested_loop.specs.Machine.{or_marks, from_row}
 use Rattle.nested_loop.proofs.Marks.{also_none, also_maps, also_clear}
-use Rattle.probing.specs.Lent.{stretch, waiting_rows, appended, HasRoom}
+use Rattle.probing.specs.Lent.{stretch, waiting_rows, appended}
 use Rattle.probing.specs.Met.{Met, width, met_pair, met_row, met_range, MetRoom, MetRows}
 use Rattle.probing.proofs.Appending.{room_less, appended_rows, appended-room, appended_few}
 

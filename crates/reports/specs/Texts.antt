@@ -1,5 +1,5 @@
 -- The lines of a report.
-use Rattle.std.specs.Prelude.{ℕ, ◌+◌, ◌-◌, ◌/◌, ◌^◌, min, List, [], ◌∷◌, ◌++◌, vec_items, vec_len, codes, decimal}
+use Rattle.std.specs.Prelude.{ℕ, ◌+◌, ◌-◌, ◌/◌, ◌^◌, min, List, ◌++◌, vec_items, vec_len, codes, decimal}
 use Rattle.std.specs.List.{flat_map}
 use Rattle.cells.specs.declared.full.Full.{Full}
 use Rattle.lines.specs.declared.reader.LineRefusal.{LineRefusal}

@@ -1,12 +1,12 @@
 -- What a handler does, branch by branch: for the code's proof, which knows the tests.
-use Rattle.std.proofs.Common.{◌≡◌, ℕ, zero, suc, ◌+◌, ◌*◌, ◌<◌, ◌≤◌, min, max, Bool, true, false, cond, not, ◌&&◌, ◌||◌, eqb, ltb, leb, List, [], ◌∷◌, ◌++◌, map, length, take, drop, Some, None, sym, refl, ap, ◌∙◌, subst, ap₂, arith}
+use Rattle.std.proofs.Common.{◌≡◌, ℕ, ◌+◌, ◌*◌, ◌<◌, ◌≤◌, min, max, Bool, true, false, cond, not, ◌&&◌, eqb, ltb, leb, List, [], ◌∷◌, ◌++◌, length, take, drop, Some, None, sym, refl, ap, ◌∙◌, subst, ap₂, arith}
 use Rattle.std.specs.List.{AllByRecursion as All}
 use Rattle.std.proofs.lemmas.Bool.{le-leb, lt-leb, lt-ltb, le-ltb, leb-true, ltb-false, eqb-true, and_parts, not-false}
 use Rattle.memory.specs.Items.{Item}
 use Rattle.join_types.specs.Types.{some_rest, left_rest_of}
 use Rattle.nested_loop.specs.Model.{Setup, right_rest_of}
 use Rattle.nested_loop.specs.Loop.{left_rest, right_rest}
-use Rattle.nested_loop.specs.Machine.{Outcome, on, delivers, State, FetchingRight, ProbeRight, EmitRightUnmatched, ProbeEnd, EmitLeftUnmatched, Done, Handled, handled, handle, probe_right, deliver, meet, rows_met, emit_right_unmatched, emit_left_unmatched, flush, Probe}
+use Rattle.nested_loop.specs.Machine.{on, FetchingRight, ProbeRight, EmitRightUnmatched, EmitLeftUnmatched, Handled, handled, handle, probe_right, deliver, meet, rows_met, emit_right_unmatched, emit_left_unmatched, flush, Probe}
 use Rattle.nested_loop.specs.declared.answer.StepRefusal.{StepRefusal}
 use Rattle.nested_loop.specs.declared.answer.StepRefusal.TheVariants.{NoSuchProbe, LeftTooShort, OtherColumns, PageTooShort}
 use Rattle.runs.specs.Records.{Call, view_at}

@@ -1,5 +1,5 @@
 -- A list of actual calls is a run of the model.
-use Rattle.std.proofs.Common.{◌≡◌, ℕ, zero, suc, ◌+◌, ◌-◌, ◌*◌, ◌<◌, ◌≤◌, Bool, true, false, cond, not, ◌&&◌, ◌||◌, eqb, List, [], ◌∷◌, ◌++◌, map, length, get_or, take, drop, set, replicate, None, Result, sym, refl, ap, ◌∙◌, subst, ap₂, append_assoc, append-nil, arith}
+use Rattle.std.proofs.Common.{◌≡◌, ℕ, zero, suc, ◌+◌, ◌-◌, ◌<◌, ◌≤◌, Bool, true, false, cond, ◌&&◌, eqb, List, [], ◌∷◌, ◌++◌, map, length, get_or, take, drop, set, replicate, None, Result, sym, refl, ap, ◌∙◌, subst, ap₂, append_assoc, append-nil, arith}
 use Rattle.std.specs.List.{AllByRecursion as All}
 use Rattle.std.proofs.lemmas.List.{map_push, set_split}
 use Rattle.std.proofs.lemmas.Bool.{eq-eqb, ne_eqb}
@@ -19,7 +19,7 @@ use Rattle.nested_loop.proofs.Room.{Wide, wide_step, wide_run, wide_open}
 use Rattle.nested_loop.proofs.All as model-runs
 use Rattle.runs.specs.Records.{Terms, ProbeView, JoinView, fresh_view, view_at, Call}
 use Rattle.runs.specs.Calls.{setup_of, probe_of, refusal_of, Moves, call_probe, call_handled, call_setup, Stepped}
-use Rattle.runs.specs.Lists.{Setting, setting_setup, Kept, open_view, items_at, Fresh, Fronts, Continues, update, follow, with_join, Refusing, Steps, opened, stepped, refusing, shown, outcome_of, calls_of, emitter_of, waiting_view, all_answered, seen_of}
+use Rattle.runs.specs.Lists.{Setting, setting_setup, Kept, items_at, Fronts, Continues, follow, with_join, Steps, opened, stepped, refusing, shown, outcome_of, calls_of, emitter_of, waiting_view, all_answered, seen_of}
 use Rattle.runs.proofs.Shown.{table_is, state_same, read_back}
 use Rattle.runs.proofs.Branches.{Accepted, accepted}
 

@@ -1,5 +1,5 @@
 -- The promises about lists of calls.
-use Rattle.std.proofs.Common.{◌≡◌, List, sym, ap, ◌∙◌, subst}
+use Rattle.std.proofs.Common.{◌≡◌, sym, ap, ◌∙◌, subst}
 use Rattle.std.proofs.lemmas.List.Sorted.{IsPermutation-trans}
 use Rattle.nested_loop.specs.Model.{Setup}
 use Rattle.nested_loop.specs.Loop.{nested}

@@ -7,7 +7,7 @@ use Rattle.nested_loop.specs.Model.{Setup}
 use Rattle.nested_loop.specs.Machine.{State, FetchingRight, ProbeRight, EmitRightUnmatched, ProbeEnd, EmitLeftUnmatched, Done, Probe, Handled, handle, asks, rows_in, become, tallied, told}
 use Rattle.nested_loop.specs.declared.answer.StepRefusal.{StepRefusal}
 use Rattle.nested_loop.specs.declared.answer.StepRefusal.TheVariants.{NoSuchProbe, LeftTooShort, OtherColumns, PageTooShort}
-use Rattle.runs.specs.Records.{Cells, Terms, ProbeView, JoinView, view_at, Call, NLJState, InFetchingRight, InProbeRight, InEmitRightUnmatched, InProbeEnd, InEmitLeftUnmatched, InDone}
+use Rattle.runs.specs.Records.{Cells, Terms, ProbeView, view_at, Call, NLJState, InFetchingRight, InProbeRight, InEmitRightUnmatched, InProbeEnd, InEmitLeftUnmatched, InDone}
 
 -- what the nested loop is about: terms, cells, table and verdict together
 abbrev pub setup_of : {C : Type 0} → Cells C → Terms → List (List C) → (List C → List C → Truth) → Setup C

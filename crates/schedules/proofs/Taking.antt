@@ -1,13 +1,10 @@
 -- Lines taken one after another.
-use Rattle.std.proofs.Common.{◌≡◌, ℕ, ◌+◌, ◌*◌, ◌<◌, ◌≤◌, true, false, List, [], ◌∷◌, ◌++◌, length, get_or, drop, Ok, Err, vec_items, Result, sym, refl, ap, ◌∙◌, ⊎_elim, append_assoc, append-nil, arith, length-append, length-drop}
+use Rattle.std.proofs.Common.{◌≡◌, ℕ, ◌+◌, ◌*◌, ◌<◌, ◌≤◌, true, List, [], ◌∷◌, ◌++◌, length, get_or, drop, Ok, Err, vec_items, Result, sym, refl, ap, ◌∙◌, ⊎_elim, append_assoc, append-nil, arith, length-append}
 use Rattle.std.specs.List.{flat_map}
-use Rattle.std.proofs.lemmas.List.{drop_all}
 use Rattle.std.proofs.lemmas.Bool.{cases_eq}
 use Rattle.cells.specs.declared.full.Full.{Full}
-use Rattle.lines.specs.Written.{behind}
 use Rattle.texts.specs.Items.{LineItem, good, bad, items, lines_of}
 use Rattle.schedules.specs.declared.songs.Songs.{Songs}
-use Rattle.schedules.specs.declared.songs.PassedLine.{PassedLine}
 use Rattle.schedules.specs.declared.songs.SongError.{SongError}
 use Rattle.schedules.specs.declared.songs.SongError.TheVariants.{NoNames, TooManyRows, NoMemory}
 use Rattle.schedules.specs.Adds.{Took}

@@ -3,7 +3,7 @@ use Rattle.std.specs.Prelude.{◌≡◌, ℕ, ◌*◌, ◌<◌, ◌≤◌, Bool,
 use Rattle.cells.specs.declared.full.Full.{Full}
 use Rattle.std.specs.List.{flat_map}
 use Rattle.lines.specs.Written.{behind}
-use Rattle.texts.specs.Items.{LineItem, good, bad, items}
+use Rattle.texts.specs.Items.{LineItem, good, items}
 use Rattle.schedules.specs.declared.songs.Songs.{Songs}
 use Rattle.schedules.specs.declared.songs.PassedLine.{PassedLine}
 use Rattle.schedules.specs.declared.songs.SongError.{SongError}

@@ -1,19 +1,17 @@
 -- What was read is the first item, and what is answered is that item.
-use Rattle.std.proofs.Common.{◌≡◌, ℕ, zero, suc, ◌*◌, ◌<◌, ◌≤◌, List, [], ◌∷◌, ◌++◌, map, length, take, drop, sym, refl, ap, ◌∙◌, subst, ⊎_elim, arith}
+use Rattle.std.proofs.Common.{◌≡◌, ℕ, ◌*◌, ◌<◌, ◌≤◌, List, [], ◌∷◌, ◌++◌, map, length, take, drop, sym, ap, ◌∙◌, subst, ⊎_elim, arith}
 use Rattle.std.proofs.lemmas.Bool.{cases_eq, cond-true, lt-ltb}
-use Rattle.std.proofs.lemmas.List.{take-take, length-take-le}
+use Rattle.std.proofs.lemmas.List.{length-take-le}
 use Rattle.cells.specs.declared.full.Full.{Full}
-use Rattle.lines.specs.declared.reader.LineRefusal.{LineRefusal}
 use Rattle.lines.specs.Rows.{number_of}
-use Rattle.lines.specs.Written.{behind, passed}
-use Rattle.memory.specs.Items.{Item, batch, fault}
+use Rattle.lines.specs.Written.{behind}
+use Rattle.memory.specs.Items.{batch, fault}
 use Rattle.memory.specs.Rows.{rows_from, cells_of}
 use Rattle.memory.proofs.Cuts.{length-rows_from}
 use Rattle.memory.proofs.Taken.{cells_rows_from}
 use Rattle.sources.specs.Asked.{Taken}
 use Rattle.sources.specs.declared.answer.SourceAnswer.{SourceAnswer}
-use Rattle.sources.specs.declared.answer.SourceAnswer.TheVariants.{Batch, Fault, End as AtEnd}
-use Rattle.texts.specs.Items.{LineItem, good, bad, items}
+use Rattle.texts.specs.Items.{good, items}
 use Rattle.text_source.specs.declared.front.Front.{Front}
 use Rattle.text_source.specs.declared.front.Stop.{Stop}
 use Rattle.text_source.specs.declared.front.Stop.TheVariants.{Full as AtFull, End, Bad}

@@ -1,13 +1,12 @@
 -- The first item of grouped lines.
-use Rattle.std.proofs.Common.{◌≡◌, ℕ, ◌+◌, ◌<◌, ◌≤◌, cond, List, [], ◌∷◌, ◌++◌, map, length, sym, refl, ap, ◌∙◌, append_assoc, append-nil, arith}
+use Rattle.std.proofs.Common.{◌≡◌, ◌+◌, ◌<◌, List, [], ◌∷◌, ◌++◌, map, length, sym, refl, ap, ◌∙◌, append_assoc, append-nil, arith}
 use Rattle.std.proofs.lemmas.List.{length_push}
 use Rattle.std.proofs.lemmas.Bool.{cond-true, cond-false, lt-ltb, le-ltb}
 use Rattle.cells.specs.declared.full.Full.{Full}
 use Rattle.lines.specs.declared.reader.LineRefusal.{LineRefusal}
-use Rattle.lines.specs.Rows.{number_of}
-use Rattle.memory.specs.Items.{Item, batch, fault}
+use Rattle.memory.specs.Items.{batch}
 use Rattle.texts.specs.Items.{LineItem, good, bad}
-use Rattle.text_source.specs.Grouped.{flushed, grouped}
+use Rattle.text_source.specs.Grouped.{grouped}
 
 -- good lines are held
 pub grouped_held : (held rs : List (List Full)) (is : List LineItem) → length held + length rs < 64 → grouped held (map good rs ++ is) ≡ grouped (held ++ rs) is

@@ -1,5 +1,5 @@
 -- Lines read into a page, row behind row.
-use Rattle.std.proofs.Common.{◌≡◌, ℕ, ◌+◌, ◌-◌, ◌*◌, ◌<◌, ◌≤◌, min, List, [], ◌∷◌, ◌++◌, map, length, take, drop, Ok, Err, sym, refl, ap, ◌∙◌, subst, append_assoc, arith, length-drop, length-take}
+use Rattle.std.proofs.Common.{◌≡◌, ℕ, ◌+◌, ◌*◌, ◌<◌, ◌≤◌, List, [], ◌∷◌, ◌++◌, map, length, take, drop, Ok, Err, sym, refl, ap, ◌∙◌, subst, append_assoc, arith, length-drop, length-take}
 use Rattle.std.proofs.lemmas.List.{take-append-drop, drop-drop, drop_all, map_push}
 use Rattle.cells.specs.declared.full.Full.{Full}
 use Rattle.lines.specs.declared.reader.Answer.TheVariants.{Row, End}
@@ -8,9 +8,9 @@ use Rattle.lines.specs.declared.reader.LineRefusal.TheVariants.{Miscounted, Malf
 use Rattle.lines.specs.Rows.{Read}
 use Rattle.lines.specs.Written.{behind}
 use Rattle.memory.specs.Rows.{rows_from, put_row}
-use Rattle.memory.proofs.Pages.{rows_put, length-put_row}
-use Rattle.texts.specs.Items.{LineItem, good, bad, items, Next}
-use Rattle.texts.proofs.Firsts.{next_row, next_end, next_refused}
+use Rattle.memory.proofs.Pages.{rows_put}
+use Rattle.texts.specs.Items.{good, bad, items}
+use Rattle.texts.proofs.Firsts.{next_row, next_refused}
 use Rattle.text_source.specs.Fills.{ReadAt}
 
 pub long_part : (w at : ℕ) (page : List Full) → at + w ≤ length page → length (take w (drop at page)) ≡ w

@@ -7,8 +7,8 @@ use Rattle.lines.specs.Rows.{Read, number_of}
 use Rattle.lines.specs.Written.{behind, passed}
 use Rattle.memory.specs.Rows.{rows_from, put_row}
 use Rattle.sources.specs.declared.answer.SourceAnswer.{SourceAnswer}
-use Rattle.sources.specs.declared.answer.SourceAnswer.TheVariants.{Batch, Wait, Fault, End as AtEnd}
-use Rattle.texts.specs.Items.{LineItem, good, bad, items}
+use Rattle.sources.specs.declared.answer.SourceAnswer.TheVariants.{Batch, Fault, End as AtEnd}
+use Rattle.texts.specs.Items.{good, bad, items}
 use Rattle.text_source.specs.declared.front.Front.{Front}
 use Rattle.text_source.specs.declared.front.Stop.{Stop}
 use Rattle.text_source.specs.declared.front.Stop.TheVariants.{Full as AtFull, End, Bad}

@@ -1,5 +1,5 @@
 -- That the items of a text fit, as the trait of sources asks. These are proofs, not definitions.
-use Rattle.std.specs.Prelude.{◌≡◌, ℕ, ◌+◌, ◌<◌, ◌≤◌, Bool, true, false, cond, List, [], ◌∷◌, ◌++◌, length, nat_lt, refl}
+use Rattle.std.specs.Prelude.{◌≡◌, ℕ, ◌+◌, ◌≤◌, Bool, true, false, cond, List, [], ◌∷◌, ◌++◌, length, nat_lt, refl}
 use Rattle.std.proofs.Common.{sym, subst, le_trans, le-add_right, add-one-le, lit≤}
 use Rattle.std.specs.List.{AllByRecursion as All}
 use Rattle.std.proofs.ByRecursion.{All-append, All-push}
@@ -9,7 +9,7 @@ use Rattle.cells.specs.declared.full.Full.{Full}
 use Rattle.lines.specs.declared.reader.LineRefusal.{LineRefusal}
 use Rattle.lines.specs.declared.reader.LineRefusal.TheVariants.{Miscounted, Malformed}
 use Rattle.lines.specs.Rows.{number_of}
-use Rattle.memory.specs.Items.{Item, batch, wait, fault}
+use Rattle.memory.specs.Items.{Item, batch, fault}
 use Rattle.sources.specs.Fits.{Fits}
 use Rattle.texts.specs.Items.{LineItem, good, bad, lines_of, items}
 use Rattle.texts.proofs.Widths.{Wide, wide_items}

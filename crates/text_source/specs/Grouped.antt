@@ -1,8 +1,8 @@
 -- The items of a text: good lines in batches as long as possible, a bad line as a fault of its own.
-use Rattle.std.specs.Prelude.{ℕ, ◌+◌, Bool, cond, List, [], ◌∷◌, ◌++◌, length, nat_lt}
+use Rattle.std.specs.Prelude.{◌+◌, cond, List, [], ◌∷◌, ◌++◌, length, nat_lt}
 use Rattle.cells.specs.declared.full.Full.{Full}
 use Rattle.lines.specs.Rows.{number_of}
-use Rattle.memory.specs.Items.{Item, batch, wait, fault}
+use Rattle.memory.specs.Items.{Item, batch, fault}
 use Rattle.texts.specs.Items.{LineItem, good, bad}
 
 -- the rows held so far, as a batch if there are any

@@ -1,19 +1,18 @@
 -- The first line of what is left of a text, and what it brings.
-use Rattle.std.proofs.Common.{◌≡◌, ℕ, zero, suc, ◌+◌, ◌-◌, ◌<◌, ◌≤◌, min, Bool, true, false, cond, not, eqb, ◌⊎◌, List, [], ◌∷◌, ◌++◌, map, length, get_or, take, drop, Ok, Err, Result, sym, refl, ap, ◌∙◌, subst, inl, inr, ⊎_elim, arith, length-drop}
+use Rattle.std.proofs.Common.{◌≡◌, ℕ, suc, ◌+◌, ◌<◌, Bool, true, false, cond, not, eqb, List, [], ◌∷◌, map, length, take, drop, Ok, Err, sym, refl, ap, ◌∙◌, inl, inr, ⊎_elim, arith, length-drop}
 use Rattle.std.proofs.lemmas.List.{drop_all, drop-drop}
-use Rattle.std.proofs.lemmas.List.Sums.{prefix_len-le-length}
 use Rattle.std.proofs.lemmas.Bool.{cond-true, cond-false, eq-eqb, ne_eqb, cases_lt}
 use Rattle.cells.specs.declared.full.Full.{Full}
 use Rattle.lines.specs.declared.reader.Answer.{Answer}
 use Rattle.lines.specs.declared.reader.Answer.TheVariants.{Row, End}
 use Rattle.lines.specs.declared.reader.LineRefusal.{LineRefusal}
 use Rattle.lines.specs.declared.reader.LineRefusal.TheVariants.{Miscounted, Malformed}
-use Rattle.lines.specs.Written.{Means, commas, before, unlike, line_at, behind}
+use Rattle.lines.specs.Written.{Means, commas, before, line_at, behind}
 use Rattle.lines.specs.Rows.{Read}
 use Rattle.lines.proofs.Splits.{means_count}
 use Rattle.lines.proofs.Once.{means_once}
 use Rattle.lines.proofs.Decided.{row_decided}
-use Rattle.texts.specs.Items.{LineItem, good, bad, item_of, front, lines_of, items, Next}
+use Rattle.texts.specs.Items.{good, bad, item_of, front, lines_of, items, Next}
 
 first_by : (b : ℕ) (bs : List ℕ) (e : Bool) → eqb b 10 ≡ e
     → (0 < length bs → lines_of bs ≡ take (before 10 bs) bs ∷ lines_of (drop (suc (before 10 bs)) bs))

@@ -1,9 +1,8 @@
 -- A separation is the same from either side.
-use Rattle.std.proofs.Common.{◌≡◌, ℕ, ◌*◌, Bool, eqb, ltb, ℤ, pos, negsuc, ◌-ℤ◌, nat_abs, Some, None, Option, sym, refl, ap, ◌∙◌, ⊎_elim, arith}
+use Rattle.std.proofs.Common.{◌≡◌, ℕ, ◌*◌, Bool, eqb, ltb, ℤ, Some, None, Option, sym, refl, ap, ◌∙◌, ⊎_elim, arith}
 use Rattle.std.proofs.lemmas.Int.{ints}
-use Rattle.std.proofs.lemmas.Bool.{eqb-true, eqb-false, eq-eqb, ne_eqb, cases_eq}
+use Rattle.std.proofs.lemmas.Bool.{eq-eqb, ne_eqb, cases_eq}
 use Rattle.cells.specs.declared.code.Code.{Code}
-use Rattle.verdicts.specs.declared.truth.Truth.{Truth}
 use Rattle.verdicts.specs.Truths.{both, truth_of}
 use Rattle.verdicts.specs.Separations.{same_code, apart, near, half, code_in, number_in, cell_in}
 use Rattle.verdicts.specs.Laws.{SeparationStands}

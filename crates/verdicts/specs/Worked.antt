@@ -1,7 +1,6 @@
 -- Five pairs of the worked schedule.
 use Rattle.std.specs.Prelude.{◌≡◌, ℕ, true, List, [], ◌∷◌, pos, codes, refl}
 use Rattle.cells.specs.Codes.{is_code, letters, packed}
-use Rattle.cells.specs.declared.code.Code.{Code}
 use Rattle.cells.specs.declared.full.Full.{Full}
 use Rattle.cells.specs.declared.full.Full.TheVariants as full
 use Rattle.verdicts.specs.declared.separation.SongColumns.{SongColumns}

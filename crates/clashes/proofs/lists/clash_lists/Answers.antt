@@ -1,6 +1,6 @@
-use Rattle.std.proofs.Common.{◌≡◌, ◌-◌, ◌/◌, ◌%◌, length, take, drop, Ok, Err, sym, ap, ◌∙◌, subst, arith}
+use Rattle.std.proofs.Common.{◌≡◌, ◌-◌, length, take, drop, Ok, Err, ap, ◌∙◌, subst, arith}
 use Rattle.std.proofs.lemmas.List.{take_rest}
-use Rattle.memory.specs.Rows.{rows_in, rows_from}
+use Rattle.memory.specs.Rows.{rows_in}
 use Rattle.texts.specs.Items.{lines_of}
 use Rattle.schedules.specs.Blocks.{first_block, second_block}
 use Rattle.schedules.specs.Reads.{ReadSongs}

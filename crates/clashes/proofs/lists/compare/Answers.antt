@@ -1,4 +1,4 @@
-use Rattle.std.proofs.Common.{◌≡◌, List, ap, ◌∙◌}
+use Rattle.std.proofs.Common.{List, ap, ◌∙◌}
 use Rattle.memory.specs.Rows.{rows_in}
 use Rattle.verdicts.specs.declared.separation.Separation.{Separation}
 use Rattle.verdicts.specs.Separations.{separation}

@@ -1,4 +1,4 @@
-use Rattle.std.proofs.Common.{◌≡◌, ◌+◌, Bool, cond, List, [], ◌∷◌, ◌++◌, length, get_or, vec_items, sym, ap, ◌∙◌, append_assoc, arith}
+use Rattle.std.proofs.Common.{◌≡◌, Bool, cond, List, [], ◌∷◌, ◌++◌, length, get_or, vec_items, sym, ap, ◌∙◌, append_assoc, arith}
 use Rattle.memory.specs.Rows.{rows_in}
 use Rattle.memory.proofs.Cuts.{get_d_rows_from, length-rows_from}
 use Rattle.verdicts.specs.Truths.{is_true}

@@ -1,6 +1,6 @@
-use Rattle.std.proofs.Common.{◌≡◌, IfOk, vec_items, sym, ap, ◌∙◌, subst}
+use Rattle.std.proofs.Common.{◌≡◌, IfOk, vec_items, ap, ◌∙◌, subst}
 use Rattle.memory.specs.Rows.{rows_in}
-use Rattle.clashes.specs.Pairs.{pairs_of, except, without}
+use Rattle.clashes.specs.Pairs.{pairs_of, except}
 use Rattle.clashes.proofs.Differences.{pairs-except}
 use Rattle.clashes.proofs.loops.pairs_except.Goals as goal
 

@@ -1,4 +1,4 @@
-use Rattle.std.proofs.Common.{◌≡◌, ℕ, ◌+◌, ◌-◌, ◌*◌, ◌<◌, ◌≤◌, List, ◌++◌, length, take, drop, sym, refl, ap, ◌∙◌, ap₂, arith}
+use Rattle.std.proofs.Common.{◌≡◌, ◌+◌, ◌-◌, ◌≤◌, ◌++◌, length, sym, refl, ap, ◌∙◌, arith}
 use Rattle.memory.specs.Marks.{bits_of}
 use Rattle.memory.specs.Rows.{rows_from}
 use Rattle.memory.proofs.Cuts.{length-rows_from}

@@ -1,6 +1,6 @@
-use Rattle.std.proofs.Common.{◌≡◌, ℕ, suc, ◌≤◌, max, List, ◌∷◌, length, sym, refl, ap, ◌∙◌, subst, arith}
+use Rattle.std.proofs.Common.{◌≡◌, ℕ, suc, ◌≤◌, max, length, sym, ap, ◌∙◌, subst, arith}
 use Rattle.std.specs.List.{AllByRecursion as All}
-use Rattle.memory.specs.Items.{Item, batch}
+use Rattle.memory.specs.Items.{batch}
 use Rattle.nested_loop.specs.Model.{counted}
 use Rattle.sources.specs.Fits.{Fits}
 use Rattle.join.proofs.Fetching.{Made, full_batch}

@@ -1,6 +1,5 @@
-use Rattle.std.proofs.Common.{◌≡◌, ℕ, ◌-◌, ◌*◌, ◌<◌, ◌≤◌, true, false, List, length, take, drop, sym, refl, ap, ◌∙◌, arith}
+use Rattle.std.proofs.Common.{◌≡◌, ◌-◌, ◌≤◌, true, false, length, sym, refl, ap, ◌∙◌, arith}
 use Rattle.join_types.specs.Types.{some_rest}
-use Rattle.memory.specs.Rows.{rows_from}
 use Rattle.memory.proofs.Cuts.{length-rows_from}
 use Rattle.nested_loop.specs.Model.{right_rest_of}
 use Rattle.nested_loop.specs.declared.answer.NLJState.TheVariants.{FetchingRight, ProbeRight, EmitRightUnmatched}

@@ -1,4 +1,4 @@
-use Rattle.std.proofs.Common.{◌≡◌, ℕ, ◌+◌, ◌-◌, ◌*◌, ◌/◌, ◌≤◌, min, max, cond, ltb, List, length, take, drop, sym, refl, ap, ◌∙◌, subst, ap₂, arith, rules}
+use Rattle.std.proofs.Common.{◌≡◌, ◌+◌, ◌-◌, ◌*◌, ◌/◌, ◌≤◌, min, max, cond, ltb, length, sym, refl, ap, ◌∙◌, subst, ap₂, arith, rules}
 use Rattle.memory.specs.Rows.{rows_from}
 use Rattle.memory.proofs.Cuts.{length-rows_from}
 use Rattle.nested_loop.specs.Machine.{rows_met}

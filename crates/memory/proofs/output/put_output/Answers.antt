@@ -1,4 +1,4 @@
-use Rattle.std.proofs.Common.{◌+◌, ◌≤◌, length, arith}
+use Rattle.std.proofs.Common.{◌+◌, ◌≤◌, length}
 use Rattle.std.proofs.lemmas.List.Edits.{paste_none}
 use Rattle.join_types.specs.declared.column.JoinSide.TheVariants.{Left}
 use Rattle.memory.specs.Output.{output_cell, output_row}

@@ -1,4 +1,4 @@
-use Rattle.std.proofs.Common.{◌≡◌, ◌≤◌, min, length, sym, ap, ◌∙◌, arith}
+use Rattle.std.proofs.Common.{◌≤◌, min, length, sym, ap, ◌∙◌, arith}
 use Rattle.memory.specs.Marks.{bits_of}
 use Rattle.probing.specs.Lent.{rows_of, stretch, waiting_of}
 use Rattle.probing.specs.Met.{width}

@@ -1,4 +1,4 @@
-use Rattle.std.proofs.Common.{◌≡◌, true, [], sym, refl, ap, ◌∙◌, arith}
+use Rattle.std.proofs.Common.{◌≡◌, true, [], sym, refl, ap, ◌∙◌}
 use Rattle.memory.specs.Marks.{bits_of}
 use Rattle.nested_loop.specs.Model.{Setup, left_rest_of}
 use Rattle.nested_loop.specs.Loop.{left_row}

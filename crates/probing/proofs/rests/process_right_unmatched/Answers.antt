@@ -1,4 +1,4 @@
-use Rattle.std.proofs.Common.{◌≡◌, Bool, false, List, [], sym, refl, ap, ◌∙◌, ap₂, arith}
+use Rattle.std.proofs.Common.{◌≡◌, Bool, false, List, [], sym, refl, ap, ◌∙◌, ap₂}
 use Rattle.std.proofs.lemmas.List.FromFn.{length-map-range_with_len}
 use Rattle.memory.specs.Marks.{bit, bits_of}
 use Rattle.nested_loop.specs.Model.{Setup, right_rest_of}

@@ -1,7 +1,4 @@
-use Rattle.std.proofs.Common.{◌≡◌, ◌+◌, ◌-◌, ◌≤◌, length, take, drop}
-use Rattle.std.specs.List.{prefix_len}
-use Rattle.texts.specs.Items.{lines_of}
-use Rattle.schedules.specs.Blocks.{is_full}
+use Rattle.std.proofs.Common.{◌-◌, length}
 use Rattle.schedules.proofs.Parting.{Walked}
 use Rattle.schedules.proofs.blocks.find_gap.Given as goal
 

@@ -1,7 +1,6 @@
 use Rattle.std.proofs.Common.{◌≡◌, ◌-◌, [], get_or, take, sym, ap, ◌∙◌, arith}
 use Rattle.std.proofs.lemmas.Slice.Eq.{slice_eq-Decides}
 use Rattle.texts.specs.Items.{lines_of}
-use Rattle.schedules.specs.Blocks.{names}
 use Rattle.schedules.proofs.Parting.{line_zero}
 use Rattle.schedules.proofs.blocks.has_names.Goals as goal
 use Rattle.std.proofs.lemmas.Bool.Decides.{Decides-eqb}

@@ -1,7 +1,7 @@
-use Rattle.std.proofs.Common.{◌≡◌, ℕ, suc, ◌+◌, ◌-◌, ◌*◌, ◌/◌, ◌%◌, ◌<◌, ◌≤◌, List, [], ◌∷◌, ◌++◌, length, get_or, take, drop, set, sym, refl, ap, ◌∙◌, append_assoc, append-nil, arith, length-set}
+use Rattle.std.proofs.Common.{◌≡◌, ◌+◌, ◌*◌, ◌/◌, ◌%◌, ◌<◌, [], ◌∷◌, ◌++◌, length, take, drop, sym, refl, ap, ◌∙◌, append_assoc, append-nil, arith, length-set}
 use Rattle.std.proofs.lemmas.List.{take-append-drop, take_more_set, drop-set-lt, drop-drop}
 use Rattle.cells.specs.Codes.{letters}
-use Rattle.cells.proofs.Packing.{Named, named, letters-more, letters-none}
+use Rattle.cells.proofs.Packing.{named, letters-more, letters-none}
 use Rattle.cells.proofs.code.Code.write.Goals as goal
 use Rattle.cells.proofs.code.Code.write.Goals.{In-loop-rest}
 

@@ -1,6 +1,5 @@
-use Rattle.std.proofs.Common.{◌≡◌, ◌-◌, take, IsUtf8, sym, ◌∙◌, subst}
+use Rattle.std.proofs.Common.{IsUtf8, sym, ◌∙◌, subst}
 use Rattle.std.specs.Fmt.{HasWritten}
-use Rattle.cells.specs.Codes.{letters}
 use Rattle.cells.proofs.Letters.{code_utf8, front-letters}
 use Rattle.cells.proofs.display.CodeDisplay.fmt.Goals as goal
 

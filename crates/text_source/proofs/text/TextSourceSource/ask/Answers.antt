@@ -1,4 +1,4 @@
-use Rattle.std.proofs.Common.{◌*◌, ◌≤◌, length, refl, mul-le-mul_right, arith}
+use Rattle.std.proofs.Common.{◌*◌, ◌≤◌, refl, mul-le-mul_right, arith}
 use Rattle.text_source.proofs.Answering.{text_taken}
 use Rattle.text_source.proofs.text.TextSourceSource.ask.Goals as goal
 
