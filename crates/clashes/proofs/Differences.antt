@@ -1,6 +1,6 @@
 -- The pairs of one list that another does not have.
 use Rattle.std.proofs.Common.{◌≡◌, Bool, true, false, cond, not, ◌&&◌, ◌||◌, eqb, List, [], ◌∷◌, length, filter, sym, refl, ap, ◌∙◌}
-use Rattle.std.specs.List.{AllByRecursion as All}
+use Rattle.std.specs.List.{AllByRecursion}
 use Rattle.std.proofs.ByRecursion.{All-weaker}
 use Rattle.std.proofs.lemmas.Bool.{eq-eqb, eqb-true, and_parts, and_from, or_left, or_right}
 use Rattle.verdicts.specs.declared.truth.Truth.{Truth}
@@ -19,7 +19,7 @@ same_pair_equal p q h =
     λ i. record { left = l i; right = r i }
 
 -- a list has each of its pairs
-all_in : (ps : List Pair) → All (λ p. is_in p ps ≡ true) ps
+all_in : (ps : List Pair) → AllByRecursion (λ p. is_in p ps ≡ true) ps
 all_in [] = tt
 all_in (q ∷ qs) = (or_left _ _ (same_itself q), All-weaker (λ p. is_in p qs ≡ true) (λ p. is_in p (q ∷ qs) ≡ true) (λ p h. or_right _ _ h) qs (all_in qs))
 
@@ -43,7 +43,7 @@ kept_step h true true x xs ys e more = ap (λ b. cond b (x ∷ filter h xs) (fil
 kept_step h true false x xs ys e more = ap (λ b. cond b (x ∷ filter h xs) (filter h xs)) e ∙ more
 kept_step h false u x xs ys e more = more
 
-kept-kept : (f g h : Pair → Bool) (xs : List Pair) → All (λ x. h x ≡ not (g x)) xs → filter h (filter f xs) ≡ filter (λ x. f x && not (g x)) xs
+kept-kept : (f g h : Pair → Bool) (xs : List Pair) → AllByRecursion (λ x. h x ≡ not (g x)) xs → filter h (filter f xs) ≡ filter (λ x. f x && not (g x)) xs
 kept-kept f g h [] all = refl
 kept-kept f g h (x ∷ xs) all = kept_step h (f x) (not (g x)) x (filter f xs) _ all.0 (kept-kept f g h xs all.1)
 

@@ -121,7 +121,9 @@ fn noted_lines(rt: HostRuntime) -> Result<(), Fail> {
     ];
     match read_songs(rt.alloc(), text) {
         Ok(songs) => {
-            assert!(rt; songs.cells.as_slice() == cells.as_slice() && songs.passed.len() == NOTED.len());
+            assert!(rt;
+                songs.cells.as_slice() == cells.as_slice() && songs.passed.len() == NOTED.len()
+            );
             for (line, &(index, number)) in songs.passed.iter().zip(NOTED) {
                 assert!(rt;
                     line.index == index && line.refusal.number() == number,

@@ -1,6 +1,6 @@
 -- What a probe that fetches makes of the item that its source answers.
 use Rattle.std.proofs.Common.{◌≡◌, ℕ, suc, ◌<◌, max, Bool, List, [], ◌∷◌, length, take, replicate, sym, refl, ap, ◌∙◌, ap₂, arith}
-use Rattle.std.specs.List.{AllByRecursion as All}
+use Rattle.std.specs.List.{AllByRecursion}
 use Rattle.memory.specs.Items.{Item, batch}
 use Rattle.memory.specs.Marks.{bits_of}
 use Rattle.memory.specs.Rows.{rows_from, cells_of}
@@ -32,7 +32,7 @@ module _ {C : Type 0} (plan : Plan) (who most : ℕ) (p : Probe) (is : p.state �
   largest_is = large ∙ sym (ap (λ (s : NLJState). largest_after (probe_view p) s most) is)
 
   -- a batch that has rows
-  pub full_batch : (k : ℕ) (rows : List (List C)) → 0 < k → k ≡ length rows → All (λ r. length r ≡ plan.list.right_columns) rows → take (length (cells_of rows)) right' ≡ cells_of rows →
+  pub full_batch : (k : ℕ) (rows : List (List C)) → 0 < k → k ≡ length rows → AllByRecursion (λ r. length r ≡ plan.list.right_columns) rows → take (length (cells_of rows)) right' ≡ cells_of rows →
       tk ≡ counted (suc p.taken) →
       Made (record { state = nlj.ProbeRight; rows = k; right_marks = replicate 16 0; index = 0; is_emitter = p.is_emitter; waiting = p.waiting; largest = lg; taken = tk; answered = p.answered }) On (batch rows ∷ rest)
   full_batch k [] lt e wide stand t = absurd (omega arith)

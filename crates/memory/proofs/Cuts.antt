@@ -1,6 +1,6 @@
 -- A part of memory whose ends are held within it, and rows one after another.
 use Rattle.std.proofs.Common.{◌≡◌, ℕ, zero, suc, ◌+◌, ◌-◌, ◌*◌, ◌^◌, ◌<◌, ◌≤◌, min, List, [], ◌∷◌, ◌++◌, length, get_or, take, drop, sym, refl, ap, ◌∙◌, ⊎_elim, suc-mul, zero-mul, arith, length-append, length-drop}
-use Rattle.std.specs.List.{flat_map, AllByRecursion as All}
+use Rattle.std.specs.List.{flat_map, AllByRecursion}
 use Rattle.std.proofs.lemmas.List.{take_all, take_at, drop_all, drop_at, drop-drop}
 use Rattle.std.proofs.lemmas.Bool.{cases_lt}
 use Rattle.memory.specs.Rows.{row_at, rows_from}
@@ -33,11 +33,11 @@ length-rows_from zero c xs = refl
 length-rows_from (suc n) c xs = ap suc (length-rows_from n c (drop c xs))
 
 -- rows of one width, laid one behind the other
-pub length_cells : {C : Type 0} (w : ℕ) (rs : List (List C)) → All (λ r. length r ≡ w) rs → length (flat_map (λ r. r) rs) ≡ length rs * w
+pub length_cells : {C : Type 0} (w : ℕ) (rs : List (List C)) → AllByRecursion (λ r. length r ≡ w) rs → length (flat_map (λ r. r) rs) ≡ length rs * w
 length_cells w [] h = sym (zero-mul w)
 length_cells w (r ∷ rs) h = length-append r (flat_map (λ x. x) rs) ∙ omega (arith, h.0, length_cells w rs h.1, suc-mul (length rs) w)
 
-pub rows_back : {C : Type 0} (w : ℕ) (rs : List (List C)) → All (λ r. length r ≡ w) rs → rows_from (length rs) w (flat_map (λ r. r) rs) ≡ rs
+pub rows_back : {C : Type 0} (w : ℕ) (rs : List (List C)) → AllByRecursion (λ r. length r ≡ w) rs → rows_from (length rs) w (flat_map (λ r. r) rs) ≡ rs
 rows_back w [] h = refl
 rows_back w (r ∷ rs) h =
     let rest = flat_map (λ x. x) rs in

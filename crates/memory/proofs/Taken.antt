@@ -1,13 +1,13 @@
 -- The first rows of memory: their width, their cells, and the rows behind them.
 use Rattle.std.proofs.Common.{◌≡◌, ℕ, zero, suc, ◌+◌, ◌-◌, ◌*◌, ◌≤◌, min, List, ◌∷◌, ◌++◌, length, take, drop, sym, refl, ap, ◌∙◌, suc-mul, zero-mul, arith, length-drop, length-take, take-add}
-use Rattle.std.specs.List.{AllByRecursion as All}
+use Rattle.std.specs.List.{AllByRecursion}
 use Rattle.std.proofs.lemmas.List.{drop-drop, drop-take, take-take}
 use Rattle.memory.specs.Rows.{rows_from, cells_of}
 use Rattle.memory.proofs.Cuts.{length_cells, rows_back}
 
 module _ {C : Type 0} where
   -- where the memory is long enough, each row is whole
-  pub wide_rows : (n w : ℕ) (xs : List C) → n * w ≤ length xs → All (λ r. length r ≡ w) (rows_from n w xs)
+  pub wide_rows : (n w : ℕ) (xs : List C) → n * w ≤ length xs → AllByRecursion (λ r. length r ≡ w) (rows_from n w xs)
   wide_rows zero w xs h = tt
   wide_rows (suc n) w xs h =
       let s : suc n * w ≡ n * w + w = suc-mul n w in
@@ -55,7 +55,7 @@ module _ {C : Type 0} where
       ∙ ap (λ rs. take w xs ∷ rs) (rows_of-front n w (drop w xs))
 
   -- rows whose cells stand at the front of a page are read back from it
-  pub rows_on_page : (w : ℕ) (rows : List (List C)) (page : List C) → All (λ r. length r ≡ w) rows → take (length (cells_of rows)) page ≡ cells_of rows → rows_from (length rows) w page ≡ rows
+  pub rows_on_page : (w : ℕ) (rows : List (List C)) (page : List C) → AllByRecursion (λ r. length r ≡ w) rows → take (length (cells_of rows)) page ≡ cells_of rows → rows_from (length rows) w page ≡ rows
   rows_on_page w rows page wide stand =
       sym (rows_of-front (length rows) w page)
       ∙ ap (λ k. rows_from (length rows) w (take k page)) (sym (length_cells w rows wide))

@@ -1,7 +1,7 @@
 -- What is promised of every list of steps from a freshly opened join, one statement each.
 use Rattle.std.specs.Prelude.{◌≡◌, ℕ, suc, ◌+◌, ◌-◌, ◌*◌, ◌≤◌, max, true, cond, List, [], ◌∷◌, ◌++◌, length, take, ◌==◌}
 use Rattle.std.specs.List.Sorted.{IsPermutation}
-use Rattle.std.specs.List.{flat_map, AllByRecursion as All}
+use Rattle.std.specs.List.{flat_map, AllByRecursion}
 use Rattle.nested_loop.specs.Model.{Setup, Item, counted}
 use Rattle.nested_loop.specs.Loop.{any, right_rows, nested, item_rows, left_rest_rows}
 use Rattle.nested_loop.specs.Machine.{is_done, opened, Answer}
@@ -69,7 +69,7 @@ pub record IsTallied (C : Type 0) : Type 0 where
   pub pairs : EveryRun C (λ S sources v. Finished sources v → v.tally.pairs ≡ counted (length S.table * length (flat_map right_rows sources)))
   pub says_so : EveryRun C (λ S sources v. v.finished ≡ true → Finished sources v)
   pub only_then : EveryRun C (λ S sources v. Finished sources v → v.finished ≡ true)
-  pub room : EveryProbe C (λ S sources v k items. (largest : ℕ) → All (λ i. item_size i ≤ largest) items → v.waiting k ≤ (S.batch_size - 1) + max S.batch_size largest)
+  pub room : EveryProbe C (λ S sources v k items. (largest : ℕ) → AllByRecursion (λ i. item_size i ≤ largest) items → v.waiting k ≤ (S.batch_size - 1) + max S.batch_size largest)
 
 -- two finished runs, one with the other's sides exchanged: mirror type, verdict turned about, left and right swapped in the output list; all
 -- rows brought are the other's left table, in any order, and its left rows are brought, each once. Whatever the probes, batches, batch sizes

@@ -1,7 +1,7 @@
 -- What is seen of a run, and all that is promised of it, together. Promises.antt has each promise by itself.
 use Rattle.std.specs.Prelude.{◌≡◌, ℕ, suc, ◌+◌, ◌-◌, ◌*◌, ◌/◌, ◌≤◌, max, Bool, true, cond, List, [], ◌∷◌, ◌++◌, length, take, Ok, Err, Result, ◌==◌}
 use Rattle.std.specs.List.Sorted.{IsPermutation}
-use Rattle.std.specs.List.{flat_map, AllByRecursion as All}
+use Rattle.std.specs.List.{flat_map, AllByRecursion}
 use Rattle.nested_loop.specs.Model.{Setup, Item, batch, wait, fault, counted}
 use Rattle.nested_loop.specs.Loop.{any, right_rows, nested, item_rows, left_rest_rows}
 use Rattle.nested_loop.specs.Machine.{Outcome, refused, on, delivers, waits, faults, says_done, is_done, is_batch, rows_in, opened, after, answers, answers_of, told_of, emitter, Join, Tally, all_probes_done, waiting_at, Answer, On, Batch, Wait, Fault, IsDone, StepRefusal}
@@ -111,7 +111,7 @@ pub record ProbeUpheld {C : Type 0} (S : Setup C) (sources : List (List (Item C)
   pub noticed_later : List Answer
   pub noticed : notices (v.told k) ++ noticed_later ≡ notices_from k 0 is
   pub noticed_all : is_done_by k v ≡ true → noticed_later ≡ []
-  pub in_room : (m : ℕ) → All (λ i. item_size i ≤ m) is → v.waiting k ≤ (S.batch_size - 1) + max S.batch_size m
+  pub in_room : (m : ℕ) → AllByRecursion (λ i. item_size i ≤ m) is → v.waiting k ≤ (S.batch_size - 1) + max S.batch_size m
 
 -- every probe has answered done
 abbrev pub Finished : {C : Type 0} → List (List (Item C)) → Seen C → Type 0

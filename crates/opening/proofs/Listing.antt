@@ -1,6 +1,6 @@
 -- Output lists: what no refusal tells, the list that is made, and its sides exchanged.
 use Rattle.std.proofs.Common.{◌≡◌, ℕ, ◌≤◌, Bool, true, false, cond, not, ◌&&◌, leb, List, [], ◌∷◌, map, length, Some, None, sym, refl, ap, ◌∙◌, ap₂, arith, rules}
-use Rattle.std.specs.List.{AllByRecursion as All}
+use Rattle.std.specs.List.{AllByRecursion}
 use Rattle.std.proofs.lemmas.List.{take_at, take-map, length-map}
 use Rattle.std.proofs.lemmas.Bool.{and_from, not-false, leb-true}
 use Rattle.join_types.specs.declared.column.ColumnIndex.{ColumnIndex}
@@ -17,7 +17,7 @@ use Rattle.opening.specs.Lists.{columns_of, side_has, is_there, is_mark, are_few
 use Rattle.opening.proofs.Passing.{pass_map, count_map}
 
 -- none is given only where no condition fits
-pub none_fits : (cs : List (Bool × OpenRefusal)) → first_of cs ≡ None → All (λ c. c.0 ≡ false) cs
+pub none_fits : (cs : List (Bool × OpenRefusal)) → first_of cs ≡ None → AllByRecursion (λ c. c.0 ≡ false) cs
 none_fits [] e = tt
 none_fits ((true, x) ∷ cs) e = absurd (let z : ◌≡◌ {A = ℕ} 0 1 = cc in omega arith)
 none_fits ((false, x) ∷ cs) e = (refl, none_fits cs e)

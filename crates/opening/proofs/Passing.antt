@@ -1,6 +1,6 @@
 -- A test of every element, as a loop goes over them.
 use Rattle.std.proofs.Common.{◌≡◌, ℕ, ◌+◌, ◌<◌, ◌≤◌, Bool, true, false, cond, ◌&&◌, List, [], ◌∷◌, map, length, get_or, drop, count_by, sym, refl, ap, ◌∙◌, ap₂}
-use Rattle.std.specs.List.{list_all, AllByRecursion as All}
+use Rattle.std.specs.List.{list_all, AllByRecursion}
 use Rattle.std.proofs.lemmas.List.{at_drop_more, at_drop_all}
 use Rattle.std.proofs.lemmas.List.Sums.{sum_by-cons}
 use Rattle.std.proofs.lemmas.Bool.{and_parts}
@@ -32,6 +32,6 @@ count_map f p q same (x ∷ xs) =
     ∙ sym (sum_by-cons (λ y. cond (q y) 1 0) x xs)
 
 -- what passes a test is so of every element
-pub all_from_pass : {X : Type 0} (p : X → Bool) (P : X → Type 0) → ((x : X) → p x ≡ true → P x) → (xs : List X) → list_all p xs ≡ true → All P xs
+pub all_from_pass : {X : Type 0} (p : X → Bool) (P : X → Type 0) → ((x : X) → p x ≡ true → P x) → (xs : List X) → list_all p xs ≡ true → AllByRecursion P xs
 all_from_pass p P says [] e = tt
 all_from_pass p P says (x ∷ xs) e = let b = and_parts (p x) (list_all p xs) e in (says x b.0, all_from_pass p P says xs b.1)

@@ -1,6 +1,6 @@
 -- What is known of the plan of a checked order.
 use Rattle.std.proofs.Common.{◌≡◌, ℕ, ◌<◌, true, arith}
-use Rattle.std.specs.List.{AllByRecursion as All}
+use Rattle.std.specs.List.{AllByRecursion}
 use Rattle.std.proofs.lemmas.Bool.{and_parts, ltb-true}
 use Rattle.join_types.specs.declared.column.JoinSide.{JoinSide}
 use Rattle.join_types.specs.declared.column.JoinSide.TheVariants.{Left, Right, None}
@@ -23,13 +23,13 @@ module _ (l : ColumnList) (legal : is_legal l ≡ true) where
   all_there = (and_parts _ _ (and_parts (are_few (columns_of l)) _ legal).1).0
 
   -- every left column of a legal list has a number below the left column count
-  pub left-numbers : All (λ c. c.side ≡ Left → c.index < l.left_columns) (columns_of l)
+  pub left-numbers : AllByRecursion (λ c. c.side ≡ Left → c.index < l.left_columns) (columns_of l)
   left-numbers =
       all_from_pass (is_there l.left_columns l.right_columns) (λ c. c.side ≡ Left → c.index < l.left_columns)
       (λ c h. left_has l.left_columns l.right_columns c.side c.index h) (columns_of l) all_there
 
   -- and every right column one below the right column count
-  pub right-numbers : All (λ c. c.side ≡ Right → c.index < l.right_columns) (columns_of l)
+  pub right-numbers : AllByRecursion (λ c. c.side ≡ Right → c.index < l.right_columns) (columns_of l)
   right-numbers =
       all_from_pass (is_there l.left_columns l.right_columns) (λ c. c.side ≡ Right → c.index < l.right_columns)
       (λ c h. right_has l.left_columns l.right_columns c.side c.index h) (columns_of l) all_there

@@ -1,6 +1,6 @@
 -- Orders: why one is refused, and what is known of the plan of one that is not (docs/RULES.md, "Opening a join").
 use Rattle.std.specs.Prelude.{◌≡◌, ℕ, ◌<◌, ◌≤◌, Bool, true, not, ◌&&◌, List, [], ◌∷◌, ◌++◌, Option, nat_le}
-use Rattle.std.specs.List.{AllByRecursion as All}
+use Rattle.std.specs.List.{AllByRecursion}
 use Rattle.join_types.specs.declared.column.ColumnIndex.{ColumnIndex}
 use Rattle.join_types.specs.declared.column.JoinSide.TheVariants.{Left, Right}
 use Rattle.join_types.specs.declared.kind.JoinType.{JoinType}
@@ -47,5 +47,5 @@ pub record Planned (p : Plan) : Type 0 where
   pub few_columns : p.list.count ≤ 32
   pub legal : is_legal p.list ≡ true
   -- every left or right column has a number below the column count of its side
-  pub left_there : All (λ c. c.side ≡ Left → c.index < p.list.left_columns) (columns_of p.list)
-  pub right_there : All (λ c. c.side ≡ Right → c.index < p.list.right_columns) (columns_of p.list)
+  pub left_there : AllByRecursion (λ c. c.side ≡ Left → c.index < p.list.left_columns) (columns_of p.list)
+  pub right_there : AllByRecursion (λ c. c.side ≡ Right → c.index < p.list.right_columns) (columns_of p.list)

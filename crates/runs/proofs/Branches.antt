@@ -1,6 +1,6 @@
 -- What a handler does, branch by branch: for the code's proof, which knows the tests.
 use Rattle.std.proofs.Common.{◌≡◌, ℕ, ◌+◌, ◌*◌, ◌<◌, ◌≤◌, min, max, Bool, true, false, cond, not, ◌&&◌, eqb, ltb, leb, List, [], ◌∷◌, ◌++◌, length, take, drop, Some, None, sym, refl, ap, ◌∙◌, subst, ap₂, arith}
-use Rattle.std.specs.List.{AllByRecursion as All}
+use Rattle.std.specs.List.{AllByRecursion}
 use Rattle.std.proofs.lemmas.Bool.{le-leb, lt-leb, lt-ltb, le-ltb, leb-true, ltb-false, eqb-true, and_parts, not-false}
 use Rattle.memory.specs.Items.{Item}
 use Rattle.join_types.specs.Types.{some_rest, left_rest_of}
@@ -71,11 +71,11 @@ pub moves_by : {C : Type 0} (S : Setup C) (p : Probe C) (c : Call C) (m : Handle
 moves_by S p c m e h = subst (Moves S p c) (sym e) h
 
 -- an accepted call is refused for no reason on the list
-pub first_none : {X : Type 0} (xs : List (Bool × X)) → first_of xs ≡ None → All (λ x. x.0 ≡ false) xs
+pub first_none : {X : Type 0} (xs : List (Bool × X)) → first_of xs ≡ None → AllByRecursion (λ x. x.0 ≡ false) xs
 first_none [] h = tt
 first_none {X} (x ∷ xs) h = go x.0 refl h (first_none xs)
   where
-    go : (b : Bool) → x.0 ≡ b → cond b (Some x.1) (first_of xs) ≡ None → (first_of xs ≡ None → All (λ x. x.0 ≡ false) xs) → (x.0 ≡ false) × All (λ x. x.0 ≡ false) xs
+    go : (b : Bool) → x.0 ≡ b → cond b (Some x.1) (first_of xs) ≡ None → (first_of xs ≡ None → AllByRecursion (λ x. x.0 ≡ false) xs) → (x.0 ≡ false) × AllByRecursion (λ x. x.0 ≡ false) xs
     go true e h ih = absurd (let z : ◌≡◌ {A = ℕ} 0 1 = cc in omega arith)
     go false e h ih = (e, ih h)
 

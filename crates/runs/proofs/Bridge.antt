@@ -1,6 +1,6 @@
 -- A list of actual calls is a run of the model.
 use Rattle.std.proofs.Common.{◌≡◌, ℕ, zero, suc, ◌+◌, ◌-◌, ◌<◌, ◌≤◌, Bool, true, false, cond, ◌&&◌, eqb, List, [], ◌∷◌, ◌++◌, map, length, get_or, take, drop, set, replicate, None, Result, sym, refl, ap, ◌∙◌, subst, ap₂, append_assoc, append-nil, arith}
-use Rattle.std.specs.List.{AllByRecursion as All}
+use Rattle.std.specs.List.{AllByRecursion}
 use Rattle.std.proofs.lemmas.List.{map_push, set_split}
 use Rattle.std.proofs.lemmas.Bool.{eq-eqb, ne_eqb}
 use Rattle.memory.specs.Items.{Item}
@@ -116,8 +116,8 @@ module _ {C : Type 0} (Z : Setting C) where
     pub told : (step S (model_of (with_join k c.join)) c.probe).told ≡ c.answer
     pub sound : Sound c.join'
 
-  module _ (k : Kept C) (c : Call C) (rows : All (λ l. length l ≡ Z.left_columns) Z.table) (so : Sound c.join) (con : Continues Z k c)
-      (wide : All (λ p. Wide S p.waiting) (model_of (with_join k c.join)).probes) where
+  module _ (k : Kept C) (c : Call C) (rows : AllByRecursion (λ l. length l ≡ Z.left_columns) Z.table) (so : Sound c.join) (con : Continues Z k c)
+      (wide : AllByRecursion (λ p. Wide S p.waiting) (model_of (with_join k c.join)).probes) where
     abbrev o : Terms
     o = c.join.terms
 
@@ -157,11 +157,11 @@ module _ {C : Type 0} (Z : Setting C) where
         wide_p : Wide S p.waiting
         wide_p =
             let w = subst (λ (z : Spot (Probe C)). whole z K.probes) sp (spot-whole c.probe K.probes) in
-            (all-parts (λ p. Wide S p.waiting) (model o k 1 bef) (p ∷ model o k (suc c.probe) aft) (subst (λ (z : List (Probe C)). All (λ p. Wide S p.waiting) z) w wide)).1.0
+            (all-parts (λ p. Wide S p.waiting) (model o k 1 bef) (p ∷ model o k (suc c.probe) aft) (subst (λ (z : List (Probe C)). AllByRecursion (λ p. Wide S p.waiting) z) w wide)).1.0
 
-        wide_out : All (λ r. length r ≡ length o.columns) (rows_in m.answer)
+        wide_out : AllByRecursion (λ r. length r ≡ length o.columns) (rows_in m.answer)
         wide_out =
-            subst (λ (z : Terms). All (λ r. length r ≡ length z.columns) (rows_in m.answer)) (sym so.terms)
+            subst (λ (z : Terms). AllByRecursion (λ r. length r ≡ length z.columns) (rows_in m.answer)) (sym so.terms)
             (wide_step S c.join.marks c.join.unfinished p.state p.waiting p.items wide_p).1
 
     one : Stepped Z.cells c → refusal_of c ≡ None → One k c
@@ -282,7 +282,7 @@ module _ {C : Type 0} (Z : Setting C) where
     pub by : (t : ℕ) → map outcome_of (calls_of t cs) ≡ answers_of (S Z) t (J₀ Z) (map turn_of cs)
     pub told : (t : ℕ) → map answer_of (calls_of t cs) ≡ told_of (S Z) t (J₀ Z) (map turn_of cs)
     pub drop : map drop_of cs ≡ drops (S Z) (J₀ Z) (map turn_of cs)
-    pub rows : All (λ l. length l ≡ Z.left_columns) Z.table
+    pub rows : AllByRecursion (λ l. length l ≡ Z.left_columns) Z.table
     pub size : 1 ≤ Z.terms.batch_size
     pub some : 1 ≤ length Z.sources
 
@@ -345,8 +345,8 @@ module _ {C : Type 0} (Z : Setting C) where
           eq : model_of (with_join k c.join) ≡ after (S Z) (J₀ Z) ts
           eq = ap (λ (z : JoinView). model_of (with_join k z)) con.join ∙ b.model
 
-          wide : All (λ p. Wide (S Z) p.waiting) (model_of (with_join k c.join)).probes
-          wide = subst (λ (J : Join C). All (λ p. Wide (S Z) p.waiting) J.probes) (sym eq) (wide_run (S Z) ts (J₀ Z) (wide_open (S Z) Z.sources))
+          wide : AllByRecursion (λ p. Wide (S Z) p.waiting) (model_of (with_join k c.join)).probes
+          wide = subst (λ (J : Join C). AllByRecursion (λ p. Wide (S Z) p.waiting) J.probes) (sym eq) (wide_run (S Z) ts (J₀ Z) (wide_open (S Z) Z.sources))
 
           O : One Z k c
           O = one Z k c b.rows (subst (Sound Z) (sym con.join) b.sound) con wide st acc

@@ -1,6 +1,6 @@
 -- Lists of actual calls of step from a freshly opened join, and what is seen of them.
 use Rattle.std.specs.Prelude.{◌≡◌, ℕ, zero, suc, ◌*◌, ◌≤◌, Bool, true, false, cond, ◌&&◌, List, [], ◌∷◌, ◌++◌, map, length, take, replicate, None, Ok, Err, Result, ◌==◌}
-use Rattle.std.specs.List.{AllByRecursion as All}
+use Rattle.std.specs.List.{AllByRecursion}
 use Rattle.memory.specs.Items.{Item}
 use Rattle.memory.specs.Rows.{rows_from, cells_of}
 use Rattle.verdicts.specs.declared.truth.Truth.{Truth}
@@ -56,7 +56,7 @@ items_at (suc (suc t)) (s ∷ ss) = items_at (suc t) ss
 pub record Fresh {C : Type 0} (Z : Setting C) (k : Kept C) : Type 0 where
   pub join : k.join ≡ open_view Z.terms Z.left_columns (length Z.table) (length Z.sources)
   pub items : (t : ℕ) → k.items t ≡ items_at t Z.sources
-  pub rows : All (λ l. length l ≡ Z.left_columns) Z.table
+  pub rows : AllByRecursion (λ l. length l ≡ Z.left_columns) Z.table
   pub size : 1 ≤ Z.terms.batch_size
   pub some : 1 ≤ length Z.sources
 

@@ -1,6 +1,6 @@
 -- What is promised of every list of calls of step.
 use Rattle.std.specs.Prelude.{◌≡◌, true, List, [], ◌∷◌, ◌++◌, map, length, Some, None}
-use Rattle.std.specs.List.{flat_map, AllByRecursion as All}
+use Rattle.std.specs.List.{flat_map, AllByRecursion}
 use Rattle.std.specs.List.Sorted.{IsPermutation}
 use Rattle.join_types.specs.Types.{mirror, swapped, has_pairs}
 use Rattle.nested_loop.specs.Loop.{right_rows}
@@ -52,8 +52,8 @@ RunsMirror C = (Z W : Setting C) (k l : Kept C) (cs ds : List (Call C)) → Mirr
 -- under inner, left, right and full a finished list delivers the joined table of ISO/IEC 9075-2, cut to the output list
 abbrev pub RunsJoin : Type 0 → Type 0
 RunsJoin C = (Z : Setting C) (k : Kept C) (cs : List (Call C)) → Steps Z k cs → Finished Z.sources (seen_of k cs) →
-    has_pairs Z.terms.join_type ≡ true → All (λ r. length r ≡ Z.terms.right_columns) (flat_map right_rows Z.sources) →
-    All (Below Z.left_columns) Z.terms.columns →
+    has_pairs Z.terms.join_type ≡ true → AllByRecursion (λ r. length r ≡ Z.terms.right_columns) (flat_map right_rows Z.sources) →
+    AllByRecursion (Below Z.left_columns) Z.terms.columns →
     (s : List (List C)) × JoinedTable Z.cells.missing Z.left_columns Z.terms.right_columns Z.terms.join_type Z.says Z.table (flat_map right_rows Z.sources) s
     × IsPermutation (delivered (seen_of k cs)) (map (project Z.cells.missing Z.left_columns Z.terms.columns) s)
 

@@ -1,6 +1,6 @@
 -- A batch of the source below, and what the present layer answers for it.
 use Rattle.std.proofs.Common.{◌≡◌, ℕ, ◌*◌, ◌≤◌, Bool, List, map, length, take, filter, sym, ap, ◌∙◌, subst, mul-le-mul_right, arith}
-use Rattle.std.specs.List.{AllByRecursion as All}
+use Rattle.std.specs.List.{AllByRecursion}
 use Rattle.std.proofs.ByRecursion.{all_kept_by}
 use Rattle.memory.specs.Items.{Item, batch}
 use Rattle.memory.specs.Rows.{rows_from, cells_of}
@@ -11,9 +11,9 @@ use Rattle.sources.specs.Asked.{Taken}
 use Rattle.sources.specs.Fits.{Fits}
 use Rattle.sources.specs.Present.{has_cell, present}
 
-module _ {C : Type 0} (most w n : ℕ) (items items' : List (Item C)) (page : List C) (fits : All (Fits most w) items) (taken : Taken items items' page (Batch n)) where
+module _ {C : Type 0} (most w n : ℕ) (items items' : List (Item C)) (page : List C) (fits : AllByRecursion (Fits most w) items) (taken : Taken items items' page (Batch n)) where
   first_fits : Fits most w (batch taken.0)
-  first_fits = (subst (All (Fits most w)) taken.1 fits).0
+  first_fits = (subst (AllByRecursion (Fits most w)) taken.1 fits).0
 
   -- a page that has room for the largest batch has room for this one
   pub batch_room : (len : ℕ) → most * w ≤ len → n * w ≤ len
@@ -37,6 +37,6 @@ module _ {C : Type 0} (most w n : ℕ) (items items' : List (Item C)) (page : Li
       let keep : List C → Bool = has_cell is_missing column in
       let rows : List (List C) = taken.0 in
       let k-is : k ≡ length (filter keep rows) = count ∙ ap (λ r. length (filter keep r)) batch_rows_on_page in
-      let wide : All (λ r. length r ≡ w) (filter keep rows) = all_kept_by keep (λ r. length r ≡ w) rows first_fits.1 in
+      let wide : AllByRecursion (λ r. length r ≡ w) (filter keep rows) = all_kept_by keep (λ r. length r ≡ w) rows first_fits.1 in
       let size : length (cells_of (filter keep rows)) ≡ k * w = length_cells w (filter keep rows) wide ∙ ap (λ j. j * w) (sym k-is) in
       (filter keep rows, ap (map (present is_missing column)) taken.1, k-is, ap (λ j. take j page') size ∙ front ∙ ap (λ r. cells_of (filter keep r)) batch_rows_on_page)

@@ -1,6 +1,6 @@
 // What a source is.
 ghost use Rattle.std.specs.Prelude.{◌≡◌, ℕ, ◌*◌, ◌≤◌, List};
-ghost use Rattle.std.specs.List.{AllByRecursion as All};
+ghost use Rattle.std.specs.List.{AllByRecursion};
 ghost use Rattle.memory.specs.Items.{Item};
 ghost use Rattle.sources.specs.Asked.{Asked};
 ghost use Rattle.sources.specs.Fits.{Fits};
@@ -27,7 +27,7 @@ pub trait Source {
 
     ghost narrow: { (s : Self) → width s ≤ 16 };
 
-    ghost fits: { (s : Self) → All (Fits most (width s)) (items s) };
+    ghost fits: { (s : Self) → AllByRecursion (Fits most (width s)) (items s) };
 
     // S, as a proof can use it where the kind of source is not known.
     fn largest() -> usize

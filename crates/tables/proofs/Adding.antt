@@ -1,6 +1,6 @@
 -- What add does to the rows of a table, for one row and for many.
 use Rattle.std.proofs.Common.{◌≡◌, ℕ, ◌+◌, ◌*◌, ◌<◌, ◌≤◌, Bool, true, false, cond, not, ◌||◌, eqb, ltb, leb, List, [], ◌∷◌, ◌++◌, length, drop, is_some, Some, None, Option, sym, refl, ap, ◌∙◌, append_assoc, append-nil, mul-le-mul_right, add-mul, one-mul, zero-add, arith}
-use Rattle.std.specs.List.{AllByRecursion as All}
+use Rattle.std.specs.List.{AllByRecursion}
 use Rattle.std.proofs.lemmas.Bool.{cond-true, cond-false, eq-eqb, eqb-true, lt-leb, le-ltb, ltb-false, leb-true, not_from_true, not-false, or_from, or_parts}
 use Rattle.memory.specs.Rows.{put_row}
 use Rattle.memory.proofs.Pages.{rows_put, length-put_row, drop-put_row}
@@ -52,7 +52,7 @@ module _ {C : Type 0} (t : Table C) (row : List C) where
 
 -- rows of one width that fit behind those held, added one after another
 module _ {C : Type 0} (c : ℕ) where
-  pub all-added : (n : ℕ) (xs : List C) (rs : List (List C)) → All (λ r. length r ≡ c) rs → n + length rs ≤ 4096 → (n + length rs) * c ≤ length xs →
+  pub all-added : (n : ℕ) (xs : List C) (rs : List (List C)) → AllByRecursion (λ r. length r ≡ c) rs → n + length rs ≤ 4096 → (n + length rs) * c ≤ length xs →
       (rows_of (added_all (table c n xs) rs) ≡ rows_of (table c n xs) ++ rs) × (drop ((n + length rs) * c) (added_all (table c n xs) rs).cells ≡ drop ((n + length rs) * c) xs)
   all-added n xs [] w h k = (sym (append-nil (rows_of (table c n xs))), refl)
   all-added n xs (r ∷ rs) w h k =

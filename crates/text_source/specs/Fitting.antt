@@ -1,7 +1,7 @@
 -- That the items of a text fit, as the trait of sources asks. These are proofs, not definitions.
 use Rattle.std.specs.Prelude.{◌≡◌, ℕ, ◌+◌, ◌≤◌, Bool, true, false, cond, List, [], ◌∷◌, ◌++◌, length, nat_lt, refl}
 use Rattle.std.proofs.Common.{sym, subst, le_trans, le-add_right, add-one-le, lit≤}
-use Rattle.std.specs.List.{AllByRecursion as All}
+use Rattle.std.specs.List.{AllByRecursion}
 use Rattle.std.proofs.ByRecursion.{All-append, All-push}
 use Rattle.std.proofs.lemmas.List.{length_push}
 use Rattle.std.proofs.lemmas.Bool.{ltb-true}
@@ -18,9 +18,9 @@ use Rattle.text_source.specs.Grouped.{flushed, grouped}
 -- fewer than 64 rows held, each of w cells
 pub record Held (w : ℕ) (held : List (List Full)) : Type 0 where
   pub few : length held + 1 ≤ 64
-  pub wide : All (λ r. length r ≡ w) held
+  pub wide : AllByRecursion (λ r. length r ≡ w) held
 
-flushed_fits : (w : ℕ) (held : List (List Full)) → length held ≤ 64 → All (λ r. length r ≡ w) held → All (Fits 64 w) (flushed held)
+flushed_fits : (w : ℕ) (held : List (List Full)) → length held ≤ 64 → AllByRecursion (λ r. length r ≡ w) held → AllByRecursion (Fits 64 w) (flushed held)
 flushed_fits w [] h wide = tt
 flushed_fits w (r ∷ rs) h wide = ((h, wide), tt)
 
@@ -28,14 +28,14 @@ refusal_fits : (w : ℕ) (e : LineRefusal) → Fits {C = Full} 64 w (fault (numb
 refusal_fits w Miscounted = (lit≤ tt, lit≤ tt, lit≤ tt)
 refusal_fits w Malformed = (lit≤ tt, lit≤ tt, lit≤ tt)
 
-fits_by : (w : ℕ) (t : Bool) (x y : List (Item Full)) → (t ≡ true → All (Fits 64 w) x) → (t ≡ false → All (Fits 64 w) y) → All (Fits 64 w) (cond t x y)
+fits_by : (w : ℕ) (t : Bool) (x y : List (Item Full)) → (t ≡ true → AllByRecursion (Fits 64 w) x) → (t ≡ false → AllByRecursion (Fits 64 w) y) → AllByRecursion (Fits 64 w) (cond t x y)
 fits_by w true x y f g = f refl
 fits_by w false x y f g = g refl
 
 held_fits : (n : ℕ) → n + 1 ≤ 64 → n ≤ 64
 held_fits n h = le_trans (le-add_right n 1) h
 
-grouped_fits : (w : ℕ) (held : List (List Full)) → Held w held → (is : List LineItem) → All (Wide w) is → All (Fits 64 w) (grouped held is)
+grouped_fits : (w : ℕ) (held : List (List Full)) → Held w held → (is : List LineItem) → AllByRecursion (Wide w) is → AllByRecursion (Fits 64 w) (grouped held is)
 grouped_fits w held h [] wide = flushed_fits w held (held_fits (length held) h.few) h.wide
 grouped_fits w held h (bad e ∷ is) wide =
     All-append (Fits 64 w) (flushed held) (fault (number_of e) 0 ∷ grouped [] is)
@@ -48,5 +48,5 @@ grouped_fits w held h (good r ∷ is) wide =
     (λ t. grouped_fits w (held ++ r ∷ []) (record { few = subst (λ n. n + 1 ≤ 64) (sym e) (add-one-le (ltb-true _ _ t)); wide = all }) is wide.1)
     (λ f. ((subst (λ n. n ≤ 64) (sym e) h.few, all), grouped_fits w [] (record { few = lit≤ tt; wide = tt }) is wide.1))
 
-pub text_fits : (w : ℕ) (bytes : List ℕ) → All (Fits 64 w) (grouped [] (items w bytes))
+pub text_fits : (w : ℕ) (bytes : List ℕ) → AllByRecursion (Fits 64 w) (grouped [] (items w bytes))
 text_fits w bytes = grouped_fits w [] (record { few = lit≤ tt; wide = tt }) (items w bytes) (wide_items w (lines_of bytes))

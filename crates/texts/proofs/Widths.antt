@@ -1,6 +1,6 @@
 -- Every row that a line brings has as many cells as were asked for.
 use Rattle.std.proofs.Common.{◌≡◌, ℕ, ◌+◌, Bool, true, false, cond, eqb, ◌⊎◌, List, [], ◌∷◌, map, length, sym, refl, ◌∙◌, inl, inr, ⊎_elim}
-use Rattle.std.specs.List.{AllByRecursion as All}
+use Rattle.std.specs.List.{AllByRecursion}
 use Rattle.std.proofs.lemmas.Bool.{eqb-true}
 use Rattle.cells.specs.declared.full.Full.{Full}
 use Rattle.lines.specs.declared.reader.LineRefusal.TheVariants.{Miscounted, Malformed}
@@ -23,6 +23,6 @@ pub wide_item : (w : ℕ) (line : List ℕ) → Wide w (item_of w line)
 unfolding item_of
 wide_item w line = wide_by w line (eqb (commas line + 1) w) refl (row_decided line)
 
-pub wide_items : (w : ℕ) (ls : List (List ℕ)) → All (Wide w) (map (item_of w) ls)
+pub wide_items : (w : ℕ) (ls : List (List ℕ)) → AllByRecursion (Wide w) (map (item_of w) ls)
 wide_items w [] = tt
 wide_items w (l ∷ ls) = (wide_item w l, wide_items w ls)
