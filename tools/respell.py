@@ -46,7 +46,7 @@ final-open=final_open final-still=final_still first-digit=first_digit first-line
 firstBlock=first_block firstDrop=first_drop fits-from=fits_from fits-run=fits_run fits-step=fits_step flag-end=flag_end flag-step=flag_step
 flush-bad=flush_bad flush-end=flush_end flushed-fits=flushed_fits forty-one=forty_one freshView=fresh_view from-has=from_has from-it=from_it
 fromRow=from_row front-cells=front_cells full-40=full_40 full-batch=full_batch full-take=full_take fullBatches=full_batches fullText=full_text
-futures-open=futures_open futures-quiet=futures_quiet getD-rowsFrom=get_d_rows_from good-width=good_width goodRows=good_rows group-pos=group_pos
+futures-open=futures_open futures-quiet=futures_quiet getD-rowsFrom=get_or-rows_from good-width=good_width goodRows=good_rows group-pos=group_pos
 grouped-fits=grouped_fits grouped-full=grouped_full grouped-held=grouped_held handledBy=handled_by handles-as=handles_as handles-by=handles_by
 has-at=has_at has-past=has_past hasAll=has_all hasCell=has_cell hasPairs=has_pairs headLine=head_line heard-done=heard_done in-any=in_any
 in-append=in_append in-bags=in_bags in-batches=in_batches in-cuts=in_cuts in-kept-step=in_kept_step in-product=in_product in-room=in_room
@@ -106,7 +106,7 @@ setupIn=setup_in setupOf=setup_of seventeen-probes=seventeen_probes seventeen-ri
 short-figures=short_figures shortPage=short_page shownProbe=shown_probe shows-behind=shows_behind shuffled-from=shuffled_from sideCell=side_cell
 sideHas=side_has sideRow=side_row signed-figures=signed_figures sixteen-probes=sixteen_probes sized-decided=sized_decided sofar-all=sofar_all
 sofar-more=sofar_more sofar-none=sofar_none some-batch=some_batch some-probes=some_probes someRest=some_rest song-rows=song_rows songs-read=songs_read
-songsOf=songs_of songsText=songs_text sound-waiting=sound_waiting sources-sides=sources_sides split-first=split_first spot-getD=spot_get_d
+songsOf=songs_of songsText=songs_text sound-waiting=sound_waiting sources-sides=sources_sides split-first=split_first spot-getD=spot-get_or
 spot-range=spot_range spot-tells=spot_tells state-is=state_is state-same=state_same state-waiting=state_waiting stateAt=state_at step-few=step_few
 step-on=step_on stepAt=step_at stretch-few=stretch_few stretch-long=stretch_long stretch-rows=stretch_rows swapped-twice=swapped_twice
 tableItems=table_items tableNumber=table_number tableRows=table_rows take-more-first=take_more_first take-putRow=take-put_row

@@ -23,10 +23,10 @@ module _ {C : Type 0} (xs : List C) (p c : ℕ) (few : length xs < 2 ^ 64) where
       (cases_lt p (length xs))
 
 -- row i among the first n
-pub get_d_rows_from : {C : Type 0} (n c : ℕ) (xs : List C) (i : ℕ) → i < n → get_or (rows_from n c xs) i [] ≡ row_at c xs i
-get_d_rows_from zero c xs i h = absurd (omega arith)
-get_d_rows_from (suc n) c xs zero h = ap (λ m. take c (drop m xs)) (sym (zero-mul c))
-get_d_rows_from (suc n) c xs (suc i) h = get_d_rows_from n c (drop c xs) i (omega arith) ∙ ap (take c) (drop-drop (i * c) c xs ∙ ap (λ m. drop m xs) (omega (arith, suc-mul i c)))
+pub get_or-rows_from : {C : Type 0} (n c : ℕ) (xs : List C) (i : ℕ) → i < n → get_or (rows_from n c xs) i [] ≡ row_at c xs i
+get_or-rows_from zero c xs i h = absurd (omega arith)
+get_or-rows_from (suc n) c xs zero h = ap (λ m. take c (drop m xs)) (sym (zero-mul c))
+get_or-rows_from (suc n) c xs (suc i) h = get_or-rows_from n c (drop c xs) i (omega arith) ∙ ap (take c) (drop-drop (i * c) c xs ∙ ap (λ m. drop m xs) (omega (arith, suc-mul i c)))
 
 pub length-rows_from : {C : Type 0} (n c : ℕ) (xs : List C) → length (rows_from n c xs) ≡ n
 length-rows_from zero c xs = refl

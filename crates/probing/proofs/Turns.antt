@@ -3,7 +3,7 @@ use Rattle.std.proofs.Common.{◌≡◌, ℕ, suc, ◌+◌, ◌-◌, ◌<◌, �
 use Rattle.std.proofs.lemmas.List.{at_drop_more, drop_more, drop_all, take_all}
 use Rattle.std.proofs.lemmas.Bool.{cases_lt}
 use Rattle.memory.specs.Rows.{row_at}
-use Rattle.memory.proofs.Cuts.{get_d_rows_from, length-rows_from}
+use Rattle.memory.proofs.Cuts.{get_or-rows_from, length-rows_from}
 use Rattle.nested_loop.specs.Model.{Setup}
 use Rattle.probing.specs.declared.lent.LentRows.{LentRows}
 use Rattle.probing.specs.Lent.{rows_of, stretch}
@@ -27,7 +27,7 @@ module _ {C : Type 0} (t : LentRows C) where
   length-rows_of = length-rows_from t.rows t.columns t.cells.now
 
   pub rows_of_at : (i : ℕ) → i < t.rows → get_or (rows_of t) i [] ≡ row_at t.columns t.cells.now i
-  rows_of_at i h = get_d_rows_from t.rows t.columns t.cells.now i h
+  rows_of_at i h = get_or-rows_from t.rows t.columns t.cells.now i h
 
   -- one of the right rows is met
   pub row_turn : (S : Setup C) (i : ℕ) (l : List C) (j : ℕ) (r : List C) (m m' : Met C) → j < t.rows → r ≡ row_at t.columns t.cells.now j → m' ≡ met_pair S i j l r m → met_row S i l (j + 1) (drop (j + 1) (rows_of t)) m' ≡ met_row S i l j (drop j (rows_of t)) m

@@ -29,10 +29,10 @@ same_each y [] = refl
 same_each {X} {Y} y (x ∷ xs) = ap (λ (z : List Y). y ∷ z) (same_each y xs)
 
 -- the element at a number
-spot_get_d : {X : Type 0} (j : ℕ) (xs : List X) (d : X) → j < length xs → spot (suc j) xs ≡ at (take j xs) (get_or xs j d) (drop (suc j) xs)
-spot_get_d j [] d h = absurd (omega arith)
-spot_get_d zero (x ∷ xs) d h = refl
-spot_get_d (suc j) (x ∷ xs) d h = ap (behind x) (spot_get_d j xs d (omega arith))
+spot-get_or : {X : Type 0} (j : ℕ) (xs : List X) (d : X) → j < length xs → spot (suc j) xs ≡ at (take j xs) (get_or xs j d) (drop (suc j) xs)
+spot-get_or j [] d h = absurd (omega arith)
+spot-get_or zero (x ∷ xs) d h = refl
+spot-get_or (suc j) (x ∷ xs) d h = ap (behind x) (spot-get_or j xs d (omega arith))
 
 -- The model's join that records and memory show
 module _ {C : Type 0} where
@@ -200,7 +200,7 @@ module _ {C : Type 0} (Z : Setting C) where
             let w : ProbeView = get_or vs j fresh_view in
             let vw : w ≡ v = ap (λ (x : ℕ). get_or vs x fresh_view) (sym i) in
             let h : Shows o k 1 j (at (take j vs) w (drop (suc j) vs)) (spot (suc j) (model o k 1 vs)) =
-            subst (λ (s : Spot ProbeView). Shows o k 1 j s (spot (suc j) (model o k 1 vs))) (spot_get_d j vs fresh_view l) (shows o k j 1 vs) in
+            subst (λ (s : Spot ProbeView). Shows o k 1 j s (spot (suc j) (model o k 1 vs))) (spot-get_or j vs fresh_view l) (shows o k j 1 vs) in
             moved (take j vs) v (drop (suc j) vs) p
             (subst (λ (z : Probe C). Moves S z c (call_handled S z c)) same (subst (λ (z : Setup C). Moves z (call_probe c) c (call_handled z (call_probe c) c)) same_setup (st.accepts acc)))
             (λ x. ap (λ (y : ℕ). set vs y x) i ∙ set_split vs j x l)

@@ -5,7 +5,7 @@ use Rattle.std.proofs.lemmas.List.Edits.{take-paste, drop-paste}
 use Rattle.std.proofs.lemmas.List.Elements.{filter_more}
 use Rattle.std.proofs.lemmas.List.{append-nil, drop-drop, flat_map_more, length-append, length-drop}
 use Rattle.memory.specs.Rows.{row_at, rows_from, cells_of}
-use Rattle.memory.proofs.Cuts.{get_d_rows_from, length-rows_from}
+use Rattle.memory.proofs.Cuts.{get_or-rows_from, length-rows_from}
 use Rattle.sources.specs.Present.{has_cell}
 
 -- i rows and one more
@@ -41,7 +41,7 @@ module _ {C : Type 0} where
     unfolding before
     next_is =
         let within : i < length (rows_from n w page0) = rw length-rows_from lt in
-        let row_is : get_or (rows_from n w page0) i [] ≡ row_at w page i = get_d_rows_from n w page0 i lt ∙ ap (take w) (sym h.rest) in
+        let row_is : get_or (rows_from n w page0) i [] ≡ row_at w page i = get_or-rows_from n w page0 i lt ∙ ap (take w) (sym h.rest) in
         filter_more p (rows_from n w page0) i [] within ∙ ap (λ r. filter p (take i (rows_from n w page0)) ++ cond (p r) (r ∷ []) []) row_is
 
     rest_more : drop ((i + 1) * w) page ≡ drop ((i + 1) * w) page0

@@ -1,6 +1,6 @@
 use Rattle.std.proofs.Common.{◌≡◌, Bool, cond, List, [], ◌∷◌, ◌++◌, length, get_or, vec_items, sym, ap, ◌∙◌, append_assoc, arith}
 use Rattle.memory.specs.Rows.{rows_in}
-use Rattle.memory.proofs.Cuts.{get_d_rows_from, length-rows_from}
+use Rattle.memory.proofs.Cuts.{get_or-rows_from, length-rows_from}
 use Rattle.verdicts.specs.Truths.{is_true}
 use Rattle.clashes.specs.declared.loops.Pair.{Pair}
 use Rattle.clashes.proofs.Listing.{row_front, row_more}
@@ -13,7 +13,7 @@ loop-j-preserved g c =
     let row = c.args.row.now in
     let i = c.args.i in
     let j = c.loop-j.j in
-    let here : get_or (rows_in t) j [] ≡ c.row.result.now = get_d_rows_from t.count t.columns t.cells.now j (omega arith) ∙ sym c.row.ensures in
+    let here : get_or (rows_in t) j [] ≡ c.row.result.now = get_or-rows_from t.count t.columns t.cells.now j (omega arith) ∙ sym c.row.ensures in
     let clash : c.is_true-clash.result ≡ is_true (says row (get_or (rows_in t) j [])) = c.is_true-clash.ensures ∙ ap is_true c.ask.ensures ∙ ap (λ r. is_true (says row r)) (sym here) in
     let more : Bool → List Pair = λ b. cond b (record { left = i; right = j } ∷ []) [] in
     c.in_ok-add_if.ensures
