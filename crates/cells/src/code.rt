@@ -1,5 +1,5 @@
 // A code: one to eight ASCII letters or digits, a letter first, in one number.
-ghost use Rattle.std.specs.Prelude.{◌≡◌, ◌≤◌, true, false, ◌++◌, length, drop, Decides, MatchOption};
+ghost use Rattle.std.specs.Prelude.{◌≡◌, ◌≤◌, true, false, ◌++◌, length, drop, MatchOption};
 ghost use Rattle.cells.specs.Codes.{is_code, letters, packed};
 
 // What the highest of the eight bytes counts.
@@ -9,7 +9,7 @@ const TOP: u64 = 0x0100_0000_0000_0000;
 pub type CodeBytes = [u8; 8];
 
 // The first letter in the highest byte, the unused low bytes zero.
-#[derive(Clone, Copy, PartialEq)]
+#[derive(Clone, Copy, PartialEq, Eq)]
 pub struct Code {
     bits: u64,
     ghost named: { is_code (letters bits) ≡ true },
@@ -76,13 +76,5 @@ impl Code {
             n += 1;
         }
         n
-    }
-
-    // Whether both have the same letters.
-    pub fn same(self, other: Code) -> bool
-        ensures spelling { Decides result (letters self.bits ≡ letters other.bits) }
-        ensures code { Decides result (self ≡ other) }
-    {
-        self == other
     }
 }

@@ -1,17 +1,39 @@
 // Full cells: what tables and texts hold.
-ghost use Rattle.std.specs.Prelude.{true, false};
-ghost use Rattle.cells.specs.Kinds.{lacks_full};
+ghost use Rattle.std.specs.Prelude.{◌≡◌, true, false};
+ghost use Rattle.cells.specs.Kinds.{lacks_full, code_in, number_in};
 ghost use Rattle.cells.specs.declared.full.Full.{Full};
 ghost use Rattle.std.proofs.Common.{rules};
 
 use crate::{Cell, Code};
 
-#[derive(Clone, Copy, PartialEq)]
+#[derive(Clone, Copy, PartialEq, Eq)]
 pub enum Full {
     Missing,
     Number(i64),
     Code(Code),
     YesNo(bool),
+}
+
+impl Full {
+    // The number in the cell, where it holds one.
+    pub fn number(self) -> Option<i64>
+        ensures { result ≡ number_in self }
+    {
+        match self {
+            Full::Number(n) => Some(n),
+            _ => None,
+        }
+    }
+
+    // The code in the cell, where it holds one.
+    pub fn code(self) -> Option<Code>
+        ensures { result ≡ code_in self }
+    {
+        match self {
+            Full::Code(code) => Some(code),
+            _ => None,
+        }
+    }
 }
 
 impl Cell for Full {
@@ -44,9 +66,6 @@ impl Cell for Full {
     }
 
     fn is_missing(self) -> bool {
-        match self {
-            Full::Missing => true,
-            Full::Number(_) | Full::Code(_) | Full::YesNo(_) => false,
-        }
+        matches!(self, Full::Missing)
     }
 }

@@ -6,7 +6,7 @@ ghost use Rattle.std.proofs.Common.{rules};
 
 use crate::Cell;
 
-#[derive(Clone, Copy, PartialEq)]
+#[derive(Clone, Copy, PartialEq, Eq)]
 pub enum Place {
     Missing,
     Row(u32),
@@ -43,9 +43,6 @@ impl Cell for Place {
     }
 
     fn is_missing(self) -> bool {
-        match self {
-            Place::Missing => true,
-            Place::Row(_) | Place::YesNo(_) => false,
-        }
+        matches!(self, Place::Missing)
     }
 }

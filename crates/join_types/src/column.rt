@@ -3,14 +3,14 @@ ghost use Rattle.std.specs.Prelude.{◌≡◌, map};
 ghost use Rattle.join_types.specs.Types.{other_side, swapped};
 
 // The side None is that of a mark.
-#[derive(Clone, Copy, PartialEq)]
+#[derive(Clone, Copy, PartialEq, Eq)]
 pub enum JoinSide {
     Left,
     Right,
     None,
 }
 
-#[derive(Clone, Copy, PartialEq)]
+#[derive(Clone, Copy, PartialEq, Eq)]
 pub struct ColumnIndex {
     pub index: usize,
     pub side: JoinSide,

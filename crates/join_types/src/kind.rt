@@ -4,7 +4,7 @@ ghost use Rattle.join_types.specs.Types.{row_of, mirror, allows};
 
 use crate::JoinSide;
 
-#[derive(Clone, Copy, PartialEq)]
+#[derive(Clone, Copy, PartialEq, Eq)]
 pub enum JoinType {
     Inner,
     Left,
@@ -19,7 +19,7 @@ pub enum JoinType {
 }
 
 // Which rows of a side a type delivers besides pairs.
-#[derive(Clone, Copy, PartialEq)]
+#[derive(Clone, Copy, PartialEq, Eq)]
 pub enum Rest {
     Nothing,
     Unmatched,

@@ -12,8 +12,6 @@ pub use kind::{JoinType, Rest, TypeRow};
 pub use produce::{need_produce_result_in_final, need_produce_right_in_final};
 
 // What holds of all types: the mirror's mirror is the type, and mirroring exchanges rests and sides.
-pub fn types_stand() -> u8
+pub fn types_stand()
     ensures { TypesStand }
-{
-    0
-}
+{}

@@ -1,4 +1,5 @@
-// Whether a type delivers a rest of one side.
+// Whether a type delivers a rest of one side. Both functions keep the list of types that the Rust has; the contracts say that
+// the table agrees with them, which one function over the table could not show.
 ghost use Rattle.std.specs.Prelude.{◌≡◌};
 ghost use Rattle.join_types.specs.Types.{row_of, left_rest_of, some_rest};
 

@@ -1,6 +1,7 @@
 -- Rows in memory, and what is refused.
-use Rattle.std.specs.Prelude.{ℕ, zero, suc, ◌+◌, ◌*◌, ◌%◌, Bool, ◌&&◌, List, [], ◌∷◌, ◌++◌, length, take, drop, ◌==◌, nat_le}
+use Rattle.std.specs.Prelude.{ℕ, zero, suc, ◌+◌, ◌*◌, ◌%◌, Bool, ◌&&◌, List, [], ◌∷◌, ◌++◌, length, take, drop, ◌==◌}
 use Rattle.std.specs.List.{flat_map}
+use Rattle.memory.specs.Columns.{are_columns}
 use Rattle.memory.specs.declared.rows.Rows.{Rows}
 use Rattle.memory.specs.declared.rows.RowsRefusal.{RowsRefusal}
 use Rattle.memory.specs.declared.rows.RowsRefusal.TheVariants.{NotWholeRows}
@@ -28,7 +29,7 @@ rows_in t = rows_from t.count t.columns t.cells.now
 
 -- 1 to 16 columns, and the memory holds whole rows
 abbrev pub are_rows : ℕ → ℕ → Bool
-are_rows columns cells = (nat_le 1 columns && nat_le columns 16) && cells % columns == 0
+are_rows columns cells = are_columns columns && cells % columns == 0
 
 -- refusals by number
 abbrev pub number_of : RowsRefusal → ℕ

@@ -17,8 +17,10 @@ pub fn mark(words: &mut [u64], i: usize)
 pub fn is_marked(words: &[u64], i: usize) -> bool
     ensures { result ≡ bit words.now i }
 {
-    let w = i / 64;
-    w < words.len() && (words[w] >> (i % 64)) & 1 == 1
+    match words.get(i / 64) {
+        Some(word) => (*word >> (i % 64)) & 1 == 1,
+        None => false,
+    }
 }
 
 // Clears all marks.

@@ -8,11 +8,7 @@ use cells::Cell;
 pub fn cell_at<C: Cell>(row: &[C], column: usize) -> C
     ensures { result ≡ slice_index_or row.now column C.Cell.missing }
 {
-    if column < row.len() {
-        row[column]
-    } else {
-        C::missing_cell()
-    }
+    row.get(column).copied().unwrap_or(C::missing_cell())
 }
 
 // Row i of memory with so many cells to a row; past the end, no cells.

@@ -2,7 +2,7 @@
 ghost use Rattle.std.specs.Prelude.{◌≡◌, ◌*◌, true, false, length, MatchResult};
 ghost use Rattle.memory.specs.Rows.{row_at, are_rows, number_of};
 
-use crate::row_at;
+use crate::{ColumnCount, row_at};
 
 #[derive(Clone, Copy)]
 pub struct Rows<'a, C> {
@@ -12,18 +12,17 @@ pub struct Rows<'a, C> {
 }
 
 // Why memory is not taken as rows.
-#[derive(Clone, Copy, PartialEq)]
+#[derive(Clone, Copy, PartialEq, Eq)]
 pub enum RowsRefusal {
-    NotWholeRows,
+    NotWholeRows = 16,
 }
 
 impl RowsRefusal {
+    // The number by which the refusal goes.
     pub fn number(self) -> u8
         ensures { result ≡ number_of self }
     {
-        match self {
-            RowsRefusal::NotWholeRows => 16,
-        }
+        self as u8
     }
 }
 
@@ -32,7 +31,10 @@ impl<'a, C> Rows<'a, C> {
     pub fn new(cells: &'a [C], columns: usize) -> Result<Rows<'a, C>, RowsRefusal>
         ensures { MatchResult result (λ t. (are_rows columns (length cells.now) ≡ true) × (t.cells.now ≡ cells.now) × (t.columns ≡ columns) × (t.count * columns ≡ length cells.now)) (λ _. are_rows columns (length cells.now) ≡ false) }
     {
-        if columns < 1 || columns > 16 || cells.len() % columns != 0 {
+        let Some(width) = ColumnCount::new(columns) else {
+            return Err(RowsRefusal::NotWholeRows);
+        };
+        if cells.len() % width.get() != 0 {
             return Err(RowsRefusal::NotWholeRows);
         }
         Ok(Rows {
@@ -40,6 +42,17 @@ impl<'a, C> Rows<'a, C> {
             columns,
             count: cells.len() / columns,
         })
+    }
+
+    // The first rows of memory that may be longer or shorter; a row past its end has no cells.
+    pub fn first(cells: &'a [C], columns: usize, count: usize) -> Rows<'a, C>
+        ensures { (result.cells.now ≡ cells.now) × (result.columns ≡ columns) × (result.count ≡ count) }
+    {
+        Rows {
+            cells,
+            columns,
+            count,
+        }
     }
 
     // How many rows there are.

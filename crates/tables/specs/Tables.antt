@@ -2,7 +2,7 @@
 use Rattle.std.specs.Prelude.{ℕ, ◌+◌, ◌*◌, cond, not, ◌||◌, List, [], ◌∷◌, length, is_some, Option, ◌==◌, nat_le, nat_lt}
 use Rattle.memory.specs.Rows.{rows_from, put_row}
 use Rattle.tables.specs.Refusals.{first_of}
-use Rattle.tables.specs.declared.gathering.Gathering.{Gathering}
+use Rattle.tables.specs.declared.table.LeftTable.{LeftTable}
 use Rattle.tables.specs.declared.refusal.TableRefusal.{TableRefusal}
 use Rattle.tables.specs.declared.refusal.TableRefusal.TheVariants.{RowLength, Full}
 
@@ -17,8 +17,8 @@ abbrev pub table : {C : Type 0} → ℕ → ℕ → List C → Table C
 table columns rows cells = record { columns = columns; rows = rows; cells = cells }
 
 -- a table that gathers, with the memory lent
-abbrev pub gathered : {C : Type 0} → Gathering → List C → Table C
-gathered g cells = table g.columns g.rows cells
+abbrev pub gathered : {C State : Type 0} → LeftTable State → List C → Table C
+gathered g cells = table g.columns.count g.rows cells
 
 -- the rows that it holds
 abbrev pub rows_of : {C : Type 0} → Table C → List (List C)

@@ -4,8 +4,6 @@ ghost use Rattle.tables.specs.Laws.{HoldsRows};
 use cells::Cell;
 
 // Rows of one width that fit, added to a table begun with that width, are held exactly so and in order.
-pub fn holds_rows<C: Cell>() -> u8
+pub fn holds_rows<C: Cell>()
     ensures { HoldsRows C }
-{
-    0
-}
+{}

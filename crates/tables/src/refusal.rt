@@ -2,11 +2,11 @@
 ghost use Rattle.std.specs.Prelude.{◌≡◌};
 ghost use Rattle.tables.specs.Refusals.{number_of};
 
-#[derive(Clone, Copy, PartialEq)]
+#[derive(Clone, Copy, PartialEq, Eq)]
 pub enum TableRefusal {
-    Columns,
-    RowLength,
-    Full,
+    Columns = 1,
+    RowLength = 2,
+    Full = 3,
 }
 
 impl TableRefusal {
@@ -14,10 +14,6 @@ impl TableRefusal {
     pub fn number(self) -> u8
         ensures { result ≡ number_of self }
     {
-        match self {
-            TableRefusal::Columns => 1,
-            TableRefusal::RowLength => 2,
-            TableRefusal::Full => 3,
-        }
+        self as u8
     }
 }
