@@ -31,12 +31,12 @@ pub enum Answer {
     Done,
 }
 
-#[derive(Clone, Copy, PartialEq)]
+#[derive(Clone, Copy, PartialEq, Eq)]
 pub enum StepRefusal {
-    NoSuchProbe,
-    LeftTooShort,
-    OtherColumns,
-    PageTooShort,
+    NoSuchProbe = 10,
+    LeftTooShort = 11,
+    OtherColumns = 12,
+    PageTooShort = 13,
 }
 
 impl StepRefusal {
@@ -44,11 +44,6 @@ impl StepRefusal {
     pub fn number(self) -> u8
         ensures { result ≡ number_of self }
     {
-        match self {
-            StepRefusal::NoSuchProbe => 10,
-            StepRefusal::LeftTooShort => 11,
-            StepRefusal::OtherColumns => 12,
-            StepRefusal::PageTooShort => 13,
-        }
+        self as u8
     }
 }
