@@ -1,9 +1,10 @@
 -- A separation is the same from either side.
 use Rattle.std.proofs.Common.{◌≡◌, ℕ, ◌*◌, Bool, eqb, ltb, ℤ, Some, None, Option, refl, ap, arith}
 use Rattle.std.proofs.lemmas.Int.{ints}
+use Rattle.cells.specs.Kinds.{code_in, number_in}
 use Rattle.cells.specs.declared.code.Code.{Code}
 use Rattle.verdicts.specs.Truths.{both, truth_of}
-use Rattle.verdicts.specs.Separations.{same_code, apart, near, half, code_in, number_in, cell_in}
+use Rattle.verdicts.specs.Separations.{same_code, apart, near, half, cell_in}
 use Rattle.verdicts.specs.Laws.{SeparationStands}
 
 eqb_swap : (m n : ℕ) → eqb m n ≡ eqb n m

@@ -1,8 +1,7 @@
 // Separation: songs of one artist that start too close to each other.
-ghost use Rattle.std.specs.Prelude.{◌≡◌, ℕ, Bool, Decides, slice_index_or};
+ghost use Rattle.std.specs.Prelude.{◌≡◌, Bool, Decides};
 ghost use Rattle.cells.specs.Codes.{letters};
-ghost use Rattle.cells.specs.declared.full.Full.TheVariants.{Missing as noCell};
-ghost use Rattle.verdicts.specs.Separations.{code_in, number_in, same_code, near, half, separation};
+ghost use Rattle.verdicts.specs.Separations.{same_code, near, half, separation};
 
 use crate::{Minutes, Truth, Verdict};
 use cells::{Code, Full};
@@ -42,14 +41,14 @@ impl Verdict for Separation {
 
     fn ask(&self, left: &[Full], right: &[Full]) -> Truth {
         let artists = half(
-            code_at(left, self.left.artist),
-            code_at(right, self.right.artist),
+            cell_at(left, self.left.artist).code(),
+            cell_at(right, self.right.artist).code(),
             same_code,
         );
         let limit = self.minutes.seconds();
         let starts = half(
-            number_at(left, self.left.start),
-            number_at(right, self.right.start),
+            cell_at(left, self.left.start).number(),
+            cell_at(right, self.right.start).number(),
             |a, b| is_near(limit, a, b),
         );
         artists.and(starts)
@@ -78,23 +77,5 @@ fn half<T: Copy, F: FnOnce(T, T) -> bool>(a: Option<T>, b: Option<T>, test: F) -
     match (a, b) {
         (Some(x), Some(y)) => Truth::from(test(x, y)),
         _ => Truth::Absent,
-    }
-}
-
-fn code_at(row: &[Full], column: usize) -> Option<Code>
-    ensures { result ≡ code_in (slice_index_or row.now column noCell) }
-{
-    match cell_at(row, column) {
-        Full::Code(c) => Some(c),
-        Full::Missing | Full::Number(_) | Full::YesNo(_) => None,
-    }
-}
-
-fn number_at(row: &[Full], column: usize) -> Option<i64>
-    ensures { result ≡ number_in (slice_index_or row.now column noCell) }
-{
-    match cell_at(row, column) {
-        Full::Number(n) => Some(n),
-        Full::Missing | Full::Code(_) | Full::YesNo(_) => None,
     }
 }
