@@ -1,14 +1,14 @@
 -- A separation is the same from either side.
-use Rattle.std.proofs.Common.{◌≡◌, ℕ, ◌*◌, Bool, eqb, ltb, ℤ, Some, None, Option, sym, refl, ap, ◌∙◌, ⊎_elim, arith}
+use Rattle.std.proofs.Common.{◌≡◌, ℕ, ◌*◌, Bool, eqb, ltb, ℤ, Some, None, Option, refl, ap, arith}
 use Rattle.std.proofs.lemmas.Int.{ints}
-use Rattle.std.proofs.lemmas.Bool.{eq-eqb, ne_eqb, cases_eq}
+use Rattle.cells.specs.Kinds.{code_in, number_in}
 use Rattle.cells.specs.declared.code.Code.{Code}
 use Rattle.verdicts.specs.Truths.{both, truth_of}
-use Rattle.verdicts.specs.Separations.{same_code, apart, near, half, code_in, number_in, cell_in}
+use Rattle.verdicts.specs.Separations.{same_code, apart, near, half, cell_in}
 use Rattle.verdicts.specs.Laws.{SeparationStands}
 
 eqb_swap : (m n : ℕ) → eqb m n ≡ eqb n m
-eqb_swap m n = ⊎_elim (λ e. eq-eqb m n e ∙ sym (eq-eqb n m (sym e))) (λ e. ne_eqb m n e ∙ sym (ne_eqb n m (λ f. e (sym f)))) (cases_eq m n)
+eqb_swap m n = grind arith
 
 pub same_swap : (c d : Code) → same_code c d ≡ same_code d c
 unfolding same_code
@@ -28,5 +28,6 @@ half-swap test same (Some x) (Some y) = ap truth_of (same x y)
 
 pub separation-swap : SeparationStands
 separation-swap minutes a b l r =
-    ap (λ t. both t (half (near (60 * minutes)) (number_in (cell_in l a.start)) (number_in (cell_in r b.start)))) (half-swap same_code same_swap (code_in (cell_in l a.artist)) (code_in (cell_in r b.artist)))
-    ∙ ap (both (half same_code (code_in (cell_in r b.artist)) (code_in (cell_in l a.artist)))) (half-swap (near (60 * minutes)) (near-swap (60 * minutes)) (number_in (cell_in l a.start)) (number_in (cell_in r b.start)))
+    let artists = half-swap same_code same_swap (code_in (cell_in l a.artist)) (code_in (cell_in r b.artist)) in
+    let starts = half-swap (near (60 * minutes)) (near-swap (60 * minutes)) (number_in (cell_in l a.start)) (number_in (cell_in r b.start)) in
+    λ i. both (artists i) (starts i)

@@ -1,5 +1,6 @@
 -- Separation, put together from code equality, the distance of two starts and AND.
 use Rattle.std.specs.Prelude.{ℕ, ◌*◌, Bool, List, ℤ, ◌-ℤ◌, Some, None, Option, ◌==◌, nat_lt, slice_index_or, unsigned_abs}
+use Rattle.cells.specs.Kinds.{code_in, number_in}
 use Rattle.cells.specs.declared.code.Code.{Code}
 use Rattle.cells.specs.declared.full.Full.{Full}
 use Rattle.cells.specs.declared.full.Full.TheVariants as full
@@ -7,20 +8,6 @@ use Rattle.verdicts.specs.declared.separation.SongColumns.{SongColumns}
 use Rattle.verdicts.specs.declared.truth.Truth.{Truth}
 use Rattle.verdicts.specs.declared.truth.Truth.TheVariants.{Absent}
 use Rattle.verdicts.specs.Truths.{both, truth_of}
-
--- the code in a cell; a cell of another kind counts as missing
-abbrev pub code_in : Full → Option Code
-code_in full.Missing = None
-code_in (full.Number z) = None
-code_in (full.Code c) = Some c
-code_in (full.YesNo b) = None
-
--- the number in a cell; a cell of another kind counts as missing
-abbrev pub number_in : Full → Option ℤ
-number_in full.Missing = None
-number_in (full.Number z) = Some z
-number_in (full.Code c) = None
-number_in (full.YesNo b) = None
 
 -- when two codes are one artist: they have the same number, and so the same letters
 unfoldable pub same_code : Code → Code → Bool

@@ -2,29 +2,30 @@
 ghost use Rattle.std.specs.Prelude.{◌≡◌, ◌*◌, ◌≤◌, true, false, MatchResult};
 ghost use Rattle.verdicts.specs.Lengths.{are_minutes};
 
-#[derive(Clone, Copy)]
+use crate::MinutesRefusal;
+
+#[derive(Clone, Copy, Debug, PartialEq, Eq)]
 pub struct Minutes {
     count: u32,
     ghost some: { 1 ≤ count },
     ghost few: { count ≤ 1440 },
 }
 
-// Why a length is refused.
-#[derive(Clone, Copy, PartialEq)]
-pub enum MinutesRefusal {
-    OutOfRange,
-}
+// The minutes of a number from 1 to 1,440.
+impl TryFrom<u32> for Minutes {
+    type Error = MinutesRefusal;
 
-impl Minutes {
-    pub fn new(count: u32) -> Result<Minutes, MinutesRefusal>
-        ensures { MatchResult result (λ m. (are_minutes count ≡ true) × (m.count ≡ count)) (λ _. are_minutes count ≡ false) }
-    {
+    ghost try_from_gives = { λ count r. MatchResult r (λ m. (are_minutes count ≡ true) × (m.count ≡ count)) (λ _. are_minutes count ≡ false) };
+
+    fn try_from(count: u32) -> Result<Minutes, MinutesRefusal> {
         if count < 1 || count > 1440 {
             return Err(MinutesRefusal::OutOfRange);
         }
         Ok(Minutes { count })
     }
+}
 
+impl Minutes {
     pub fn count(self) -> u32
         ensures { result ≡ self.count }
     {
@@ -35,6 +36,6 @@ impl Minutes {
         ensures { result ≡ 60 * self.count }
     {
         let Minutes { count } = self;
-        60 * count as u64
+        60 * u64::from(count)
     }
 }

@@ -1,8 +1,7 @@
 // Separation: songs of one artist that start too close to each other.
-ghost use Rattle.std.specs.Prelude.{◌≡◌, ℕ, Decides, slice_index_or};
+ghost use Rattle.std.specs.Prelude.{◌≡◌, Bool, Decides};
 ghost use Rattle.cells.specs.Codes.{letters};
-ghost use Rattle.cells.specs.declared.full.Full.TheVariants.{Missing as noCell};
-ghost use Rattle.verdicts.specs.Separations.{code_in, number_in, same_code, near, half, separation};
+ghost use Rattle.verdicts.specs.Separations.{same_code, near, half, separation};
 
 use crate::{Minutes, Truth, Verdict};
 use cells::{Code, Full};
@@ -41,14 +40,16 @@ impl Verdict for Separation {
     ghost says = { λ s. separation s.minutes.count s.left s.right };
 
     fn ask(&self, left: &[Full], right: &[Full]) -> Truth {
-        let artists = codes_alike(
-            code_at(left, self.left.artist),
-            code_at(right, self.right.artist),
+        let artists = half(
+            cell_at(left, self.left.artist).code(),
+            cell_at(right, self.right.artist).code(),
+            same_code,
         );
-        let starts = numbers_near(
-            self.minutes.seconds(),
-            number_at(left, self.left.start),
-            number_at(right, self.right.start),
+        let limit = self.minutes.seconds();
+        let starts = half(
+            cell_at(left, self.left.start).number(),
+            cell_at(right, self.right.start).number(),
+            |a, b| is_near(limit, a, b),
         );
         artists.and(starts)
     }
@@ -59,7 +60,7 @@ fn same_code(a: Code, b: Code) -> bool
     ensures value { result ≡ same_code a b }
     ensures letters { Decides result (letters a.bits ≡ letters b.bits) }
 {
-    a.same(b)
+    a == b
 }
 
 fn is_near(limit: u64, a: i64, b: i64) -> bool
@@ -68,44 +69,13 @@ fn is_near(limit: u64, a: i64, b: i64) -> bool
     a.abs_diff(b) < limit
 }
 
-fn codes_alike(a: Option<Code>, b: Option<Code>) -> Truth
-    ensures { result ≡ half same_code a b }
+// One half of a separation: a test of two cells, absent where one is missing.
+fn half<T: Copy, F: FnOnce(T, T) -> bool>(a: Option<T>, b: Option<T>, test: F) -> Truth
+    requires { (x y : T) → F.pre test x y }
+    ensures { (says : T → T → Bool) → ((x y : T) (r : Bool) → F.post test x y r → r ≡ says x y) → result ≡ half says a b }
 {
-    let Some(x) = a else {
-        return Truth::Absent;
-    };
-    let Some(y) = b else {
-        return Truth::Absent;
-    };
-    Truth::of(same_code(x, y))
-}
-
-fn numbers_near(limit: u64, a: Option<i64>, b: Option<i64>) -> Truth
-    ensures { result ≡ half (near limit) a b }
-{
-    let Some(x) = a else {
-        return Truth::Absent;
-    };
-    let Some(y) = b else {
-        return Truth::Absent;
-    };
-    Truth::of(is_near(limit, x, y))
-}
-
-fn code_at(row: &[Full], column: usize) -> Option<Code>
-    ensures { result ≡ code_in (slice_index_or row.now column noCell) }
-{
-    match cell_at(row, column) {
-        Full::Code(c) => Some(c),
-        Full::Missing | Full::Number(_) | Full::YesNo(_) => None,
-    }
-}
-
-fn number_at(row: &[Full], column: usize) -> Option<i64>
-    ensures { result ≡ number_in (slice_index_or row.now column noCell) }
-{
-    match cell_at(row, column) {
-        Full::Number(n) => Some(n),
-        Full::Missing | Full::Code(_) | Full::YesNo(_) => None,
+    match (a, b) {
+        (Some(x), Some(y)) => Truth::from(test(x, y)),
+        _ => Truth::Absent,
     }
 }

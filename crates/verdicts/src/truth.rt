@@ -2,7 +2,7 @@
 ghost use Rattle.std.specs.Prelude.{◌≡◌};
 ghost use Rattle.verdicts.specs.Truths.{both, is_true, truth_of};
 
-#[derive(Clone, Copy, PartialEq)]
+#[derive(Clone, Copy, Debug, PartialEq, Eq)]
 pub enum Truth {
     True,
     False,
@@ -25,15 +25,15 @@ impl Truth {
     pub fn is_true(self) -> bool
         ensures { result ≡ is_true self }
     {
-        match self {
-            Truth::True => true,
-            Truth::False | Truth::Absent => false,
-        }
+        self == Truth::True
     }
+}
 
-    pub fn of(b: bool) -> Truth
-        ensures { result ≡ truth_of b }
-    {
+// What is known to be true or false.
+impl From<bool> for Truth {
+    ghost from_gives = { λ b t. t ≡ truth_of b };
+
+    fn from(b: bool) -> Truth {
         if b { Truth::True } else { Truth::False }
     }
 }
