@@ -10,10 +10,10 @@ use Rattle.sources.specs.declared.refusal.ShapeRefusal.TheVariants.{BatchLength,
 abbrev pub ask_number : SourceRefusal → ℕ
 ask_number PageTooShort = 13
 
--- why a table's shape is refused
-abbrev pub shape_number : ShapeRefusal → ℕ
-shape_number BatchLength = 14
-shape_number NotWholeRows = 16
+-- what making a table source is refused with
+abbrev pub table_number : ShapeRefusal → ℕ
+table_number BatchLength = 14
+table_number NotWholeRows = 16
 
 -- a batch has 1 to 1,024 rows
 abbrev pub is_batch : ℕ → Bool

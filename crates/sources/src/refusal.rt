@@ -1,6 +1,6 @@
 // Why cells make no table.
 ghost use Rattle.std.specs.Prelude.{◌≡◌};
-ghost use Rattle.sources.specs.Refusals.{shape_number};
+ghost use Rattle.sources.specs.Refusals.{table_number};
 
 #[derive(Clone, Copy, Debug, PartialEq, Eq)]
 pub enum ShapeRefusal {
@@ -11,7 +11,7 @@ pub enum ShapeRefusal {
 impl ShapeRefusal {
     // The number by which the refusal goes.
     pub fn number(self) -> u8
-        ensures { result ≡ shape_number self }
+        ensures { result ≡ table_number self }
     {
         self as u8
     }
