@@ -1,14 +1,13 @@
 -- That the items of the sources here fit, as the trait asks. These are proofs, not definitions.
-use Rattle.std.specs.Prelude.{◌≡◌, ℕ, zero, suc, ◌+◌, ◌*◌, ◌≤◌, Bool, List, map, length, take, drop, replicate, All}
+use Rattle.std.specs.Prelude.{◌≡◌, ℕ, zero, suc, ◌+◌, ◌*◌, ◌/◌, ◌≤◌, Bool, List, map, length, take, drop, replicate, All}
 use Rattle.std.proofs.Common.{sym, subst, le_trans}
-use Rattle.std.proofs.Math.Nat.{min-le_left, min-le_right}
+use Rattle.std.proofs.Math.Nat.{min-le_left, min-le_right, div-mul-le_self}
 use Rattle.std.proofs.lemmas.List.{length-take}
 use Rattle.std.proofs.lemmas.List.Elements.{All-from_recursion, All-nil, All-cons, All-take, All-drop, All-map, All-weaker, All-filter}
 use Rattle.std.proofs.lemmas.List.Sums.{length-filter, count_by-le-length}
 use Rattle.memory.specs.Items.{Item, batch, wait, fault}
-use Rattle.memory.specs.Rows.{rows_from}
 use Rattle.memory.proofs.Taken.{wide_rows}
-use Rattle.sources.specs.Cuts.{cut_by, parts, batches_of}
+use Rattle.sources.specs.Cuts.{cut_by, parts, whole_rows, batches_of}
 use Rattle.sources.specs.Fits.{Fits}
 use Rattle.sources.specs.Present.{has_cell, present}
 
@@ -21,8 +20,10 @@ cut_fits most c w (suc k) rows h wide =
     (cut_fits most c w k (drop c rows) h (All-drop (λ r. length r ≡ w) c rows wide))
 
 -- the batches of a table
-pub table_fits : {C : Type 0} (c n w : ℕ) (cells : List C) → c ≤ 1024 → n * w ≤ length cells → All (Fits 1024 w) (batches_of c (rows_from n w cells))
-table_fits c n w cells h room = cut_fits 1024 c w (parts (length (rows_from n w cells)) c) (rows_from n w cells) h (All-from_recursion (λ r. length r ≡ w) (rows_from n w cells) (wide_rows n w cells room))
+pub table_fits : {C : Type 0} (c w : ℕ) (cells : List C) → c ≤ 1024 → All (Fits 1024 w) (batches_of c (whole_rows w cells))
+table_fits c w cells h =
+    let rows = whole_rows w cells in
+    cut_fits 1024 c w (parts (length rows) c) rows h (All-from_recursion (λ r. length r ≡ w) rows (wide_rows (length cells / w) w cells (div-mul-le_self (length cells) w)))
 
 -- what the present layer makes of an item fits where the item does
 present_one : {C : Type 0} (is_missing : C → Bool) (column most w : ℕ) (item : Item C) → Fits most w item → Fits most w (present is_missing column item)
