@@ -25,7 +25,7 @@ pub fn drain<S: Source>(
     loop {
         match source.ask(page)? {
             SourceAnswer::Batch(rows) => {
-                brought.cells.extend_from_slice(&page[0..rows * columns])?;
+                brought.cells.extend_from_slice(&page[..rows * columns])?;
                 brought.rows = brought.rows.saturating_add(rows as u64);
                 brought.batches = brought.batches.saturating_add(1);
             }

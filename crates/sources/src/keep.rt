@@ -14,6 +14,7 @@ fn has_cell<C: Cell>(row: &[C], column: usize) -> bool
 }
 
 // Moves the rows that have a cell in a column to the front of the page, in order, and counts them.
+#[tactic(auto, using(crate::proofs::Keeping::row_within))]
 pub(crate) fn keep_rows<C: Cell>(
     page: &mut [C],
     columns: usize,

@@ -28,7 +28,7 @@ impl<'a, C> TableSource<'a, C> {
         let columns = shape.columns.get();
         let rows = shape.rows.min(cells.len() / columns);
         TableSource {
-            cells: &cells[0..rows * columns],
+            cells: &cells[..rows * columns],
             shape,
         }
     }
@@ -71,7 +71,7 @@ impl<'a, C: Cell> Source for TableSource<'a, C> {
             return Ok(SourceAnswer::End);
         }
         let (front, rest) = self.cells.split_at(count * columns);
-        page[0..front.len()].copy_from_slice(front);
+        page[..front.len()].copy_from_slice(front);
         self.cells = rest;
         Ok(SourceAnswer::Batch(count))
     }

@@ -1,4 +1,4 @@
-use Rattle.std.proofs.Common.{◌≡◌, ◌+◌, ◌-◌, ◌*◌, ◌≤◌, ◌++◌, length, take, refl, ap, ◌∙◌, sym, arith}
+use Rattle.std.proofs.Common.{◌+◌, ◌*◌, ◌≤◌, ◌++◌, length, refl, ap, ◌∙◌, sym, arith, length-take}
 use Rattle.std.proofs.lemmas.Result.{err_from_is_err_and}
 use Rattle.memory.specs.Items.{batch, wait, fault}
 use Rattle.sources.specs.Drained.{counted}
@@ -22,6 +22,14 @@ slice_bounds-extend_from_slice-end g c =
     let same = c.columns-columns.ensures ∙ sym l.invariant.width in
     batch_room source.items source.most (source.width l.source) c.in-Batch.rows c.columns-columns.result l.source c.ask.new.self l.page c.ask.new.page c.in_ok-rows.field-0 (source.fits l.source) c.in_ok-rows.ensures.answer c.in-Batch.is same (omega arith)
 
+pub slice_bounds-extend_from_slice-end-in-Batch : goal.slice_bounds-extend_from_slice-end-in-Batch
+slice_bounds-extend_from_slice-end-in-Batch g c =
+    let source = g.S.Source in
+    let l = c.loop-brought in
+    let same = c.columns-columns.ensures ∙ sym l.invariant.width in
+    let room = batch_room source.items source.most (source.width l.source) c.in-Batch.rows c.columns-columns.result l.source c.ask.new.self l.page c.ask.new.page c.in_ok-rows.field-0 (source.fits l.source) c.in_ok-rows.ensures.answer c.in-Batch.is same (omega arith) in
+    simp length-take (omega (arith, room))
+
 pub returns-in_err-extend_from_slice-in-Batch-clause-items :
     goal.returns-in_err-extend_from_slice-in-Batch-clause-items
 returns-in_err-extend_from_slice-in-Batch-clause-items g c =
@@ -42,9 +50,8 @@ loop-brought-preserved-in-Batch g c =
     let same = c.columns-columns.ensures ∙ sym l.invariant.width in
     let t = taken source.items source.most (source.width l.source) c.in-Batch.rows c.columns-columns.result l.source c.ask.new.self l.page c.ask.new.page c.in_ok-rows.field-0 (source.fits l.source) asked c.in-Batch.is same in
     let cells = batch_cells source.items source.most (source.width l.source) c.in-Batch.rows c.columns-columns.result l.source c.ask.new.self l.page c.ask.new.page c.in_ok-rows.field-0 (source.fits l.source) asked c.in-Batch.is same in
-    let whole : c.in-Batch.rows * c.columns-columns.result - 0 ≡ c.in-Batch.rows * c.columns-columns.result = omega arith in
     let room : source.most * source.width c.args.source.now ≤ length c.args.page.now = omega (arith, asked.0, l.invariant.long, ap (λ w. source.most * w) l.invariant.width) in
-    let brought = brought_batch before.taken l.brought _ before.brought t.0 (c.in_ok-extend_from_slice-in-Batch.ensures.items ∙ ap (λ x. l.brought.cells.items ++ x) (ap (λ k. take k c.ask.new.page) whole ∙ cells)) (c.saturating_add.ensures ∙ ap (λ k. counted (l.brought.rows + k)) t.2) c.saturating_add-in-Batch.ensures refl refl in
+    let brought = brought_batch before.taken l.brought _ before.brought t.0 (c.in_ok-extend_from_slice-in-Batch.ensures.items ∙ ap (λ x. l.brought.cells.items ++ x) cells) (c.saturating_add.ensures ∙ ap (λ k. counted (l.brought.rows + k)) t.2) c.saturating_add-in-Batch.ensures refl refl in
     record {
       long = omega (arith, l.invariant.long);
       width = c.in_ok-rows.ensures.width ∙ l.invariant.width;
