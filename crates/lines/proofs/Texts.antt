@@ -1,8 +1,8 @@
 -- What the bytes of a text tell of the cell that it stands for.
-use Rattle.std.proofs.Common.{◌≡◌, ℕ, suc, ◌+◌, ◌-◌, ◌<◌, ◌≤◌, Bool, true, false, cond, not, ◌&&◌, eqb, List, [], ◌∷◌, ◌++◌, length, get_or, take, drop, ℤ, pos, negsuc, sym, refl, ap, ◌∙◌, subst, arith}
+use Rattle.std.proofs.Common.{◌≡◌, ℕ, suc, ◌+◌, ◌-◌, ◌<◌, ◌≤◌, Bool, true, false, cond, not, ◌&&◌, ◌||◌, ◌==◌, eqb, List, [], ◌∷◌, ◌++◌, length, get_or, take, drop, ℤ, pos, negsuc, sym, refl, ap, ◌∙◌, subst, arith}
 use Rattle.std.specs.Char.{is_ascii_alphabetic, is_ascii_alphanumeric, is_ascii_digit}
 use Rattle.std.specs.Str.{all_ascii_digits}
-use Rattle.std.proofs.lemmas.List.{at_drop_more}
+use Rattle.std.proofs.lemmas.List.{at_drop_more, nil_from_length}
 use Rattle.std.proofs.lemmas.Slice.{first_rest}
 use Rattle.std.proofs.lemmas.List.Sums.{prefix_len-le-length}
 use Rattle.std.proofs.lemmas.Bool.{and_parts, and_from, both_ways, ne_eqb}
@@ -11,8 +11,11 @@ use Rattle.cells.specs.Codes.{letters, is_code, all_alnum}
 use Rattle.cells.specs.declared.full.Full.{Full}
 use Rattle.cells.specs.declared.full.Full.TheVariants.{Missing, Number, Code, YesNo}
 use Rattle.cells.proofs.Packing.{named}
-use Rattle.lines.specs.Firsts.{is_figure}
 use Rattle.lines.specs.Written.{Numeral, Figures, Writes, value, unlike, before}
+
+-- a digit or a minus (45)
+abbrev pub is_figure : ℕ → Bool
+is_figure b = is_ascii_digit b || b == 45
 
 -- the first byte of a numeral is a digit
 pub first_digit : (t : List ℕ) → Numeral t → is_ascii_digit (get_or t 0 0) ≡ true
@@ -41,6 +44,14 @@ no_cell t some f n Missing k = some (ap length k)
 no_cell t some f n (Number z) k = f z k
 no_cell t some f n (Code c) k = n (ap is_code (sym k) ∙ c.named)
 no_cell t some f n (YesNo b) k = k
+
+-- a byte that begins a number only
+pub only_number : (t : List ℕ) → is_figure (get_or t 0 0) ≡ true → ((z : ℤ) → Figures z t → ⊥) → (c : Full) → Writes c t → ⊥
+only_number t u f c w = no_cell t (λ z. both_ways _ (ap (λ x. is_figure (get_or x 0 0)) (nil_from_length t z)) u) f (not_code t (not_both_figure (get_or t 0 0) u)) c w
+
+-- a byte that begins neither
+pub no_first : (t : List ℕ) → 1 ≤ length t → is_ascii_alphabetic (get_or t 0 0) ≡ false → is_figure (get_or t 0 0) ≡ false → (c : Full) → Writes c t → ⊥
+no_first t some u v c w = no_cell t (λ z. omega arith) (not_figures t v) (not_code t u) c w
 
 -- after a minus
 pub minus : (t : List ℕ) → 0 < length t → get_or t 0 0 ≡ 45 → t ≡ 45 ∷ take (length t - 1) (drop 1 t)
