@@ -1,8 +1,9 @@
 -- A line as the list of the texts between its commas.
-use Rattle.std.proofs.Common.{◌≡◌, ℕ, zero, suc, ◌+◌, ◌<◌, Bool, true, false, not, eqb, List, [], ◌∷◌, ◌++◌, length, get_or, take, set, sym, refl, ap, ◌∙◌, subst, arith}
+use Rattle.std.proofs.Common.{◌≡◌, ℕ, zero, suc, ◌+◌, ◌<◌, Bool, true, false, eqb, List, [], ◌∷◌, ◌++◌, length, get_or, take, set, sym, refl, ap, ◌∙◌, subst, arith}
 use Rattle.std.specs.Bool.{MatchBool}
 use Rattle.std.specs.List.{All, AllWithin, AllZip, HoldsAt, enumerate_from, slice_split, join_with_byte}
 use Rattle.std.proofs.lemmas.List.Splits.{slice_split_none, slice_split_at, length-slice_split, join_with_byte-slice_split}
+use Rattle.std.proofs.lemmas.Bool.{not-true}
 use Rattle.std.proofs.lemmas.List.Sums.{prefix_len_passes}
 use Rattle.std.proofs.lemmas.List.{take_more, take_more_set}
 use Rattle.std.proofs.lemmas.List.FromFn.{length-enumerate_from, get_or-enumerate_from}
@@ -17,13 +18,9 @@ texts line = slice_split (λ b. eqb b 44) line
 pub length-texts : (line : List ℕ) → length (texts line) ≡ commas line + 1
 length-texts line = length-slice_split (λ b. eqb b 44) line
 
-not_not : (b : Bool) → not b ≡ true → b ≡ false
-not_not true h = sym h
-not_not false h = refl
-
 -- no cell's text has a comma
 plain : (c : Full) (t : List ℕ) → Writes c t → All (λ b. eqb b 44 ≡ false) t
-plain c t w k d h = not_not _ (prefix_len_passes (unlike 44) t k d (omega (arith, text_lacks 44 refl (λ e. omega arith) c t w)))
+plain c t w k d h = not-true _ (prefix_len_passes (unlike 44) t k d (omega (arith, text_lacks 44 refl (λ e. omega arith) c t w)))
 
 -- the row that a line stands for has a cell for each text
 pub cells_from : (r : List Full) (line : List ℕ) → Means r line → AllZip Writes r (texts line)
