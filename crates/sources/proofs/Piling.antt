@@ -1,6 +1,6 @@
 -- Present layers over a table, drained.
 use Rattle.std.proofs.Common.{◌≡◌, ℕ, ◌*◌, ◌/◌, min, Bool, List, [], ◌∷◌, map, length, Ok, Err, filter, Result, ap, ◌∙◌, subst, arith}
-use Rattle.std.specs.List.{AllByRecursion}
+use Rattle.std.specs.Prelude.{All}
 use Rattle.memory.specs.Items.{Item}
 use Rattle.memory.specs.Rows.{rows_from, cells_of}
 use Rattle.sources.specs.declared.drained.DrainError.{DrainError}
@@ -34,11 +34,11 @@ module _ {C : Type 0} where
         ∙ ap (λ n. batches_of t.batch (rows_from n t.columns s.cells.now)) rows
         ∙ ap (λ y. batches_of t.batch (rows_from (min t.rows (length cells / t.columns)) t.columns y)) lent
 
-    items_fit : AllByRecursion (Fits 1024 t.columns) (batches_of t.batch (table_rows t cells))
+    items_fit : All (Fits 1024 t.columns) (batches_of t.batch (table_rows t cells))
     items_fit =
-        let P : ℕ → Type 0 = λ w. AllByRecursion (Fits 1024 w) (batches_of t.batch (table_rows t cells)) in
+        let P : ℕ → Type 0 = λ w. All (Fits 1024 w) (batches_of t.batch (table_rows t cells)) in
         subst P (ap (λ x. x.columns) shaped)
-        (subst (AllByRecursion (Fits 1024 s.shape.columns)) items_are (table_fits s.shape.batch s.rows s.shape.columns s.cells.now s.shape.small s.whole))
+        (subst (All (Fits 1024 s.shape.columns)) items_are (table_fits s.shape.batch s.rows s.shape.columns s.cells.now s.shape.small s.whole))
 
     module _ (is_missing : C → Bool) (first second : ℕ) (page page' : List C) (p p' : Present (Present (TableSource C))) (made : p ≡ record { inner = record { inner = s; column = first }; column = second }) where
       needed_is : 1024 * p.inner.inner.shape.columns ≡ 1024 * t.columns

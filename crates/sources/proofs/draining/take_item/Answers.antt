@@ -4,6 +4,14 @@ use Rattle.sources.proofs.Layers.{batch_room}
 use Rattle.sources.proofs.Adding.{took_batch, brought_wait, brought_fault}
 use Rattle.sources.proofs.draining.take_item.Goals as goal
 
+pub overflow_mul-rows : goal.overflow_mul-rows
+overflow_mul-rows g c =
+    let source = g.S.Source in
+    let s = c.args.source.now in
+    let taken = rw c.in-Batch.is at c.in_ok-answer.ensures.answer in
+    let room : source.most * source.width s ≤ length c.ask.new.page = omega (arith, taken.0) in
+    omega (arith, batch_room source.most (source.width s) c.in-Batch.rows (source.items s) _ c.ask.new.page (source.fits s) taken.1 _ room, ap (λ w. c.in-Batch.rows * w) c.columns-columns.ensures)
+
 pub slice_bounds-extend_from_slice-end : goal.slice_bounds-extend_from_slice-end
 slice_bounds-extend_from_slice-end g c =
     let source = g.S.Source in
