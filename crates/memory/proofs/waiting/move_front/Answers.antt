@@ -1,6 +1,6 @@
 use Rattle.std.proofs.Common.{arith}
 use Rattle.memory.proofs.Pages.{front-moved, rest-moved}
-use Rattle.memory.proofs.page.move_front.Goals as goal
+use Rattle.memory.proofs.waiting.move_front.Goals as goal
 
 pub returns : goal.returns
 returns g c =
