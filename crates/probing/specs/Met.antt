@@ -4,8 +4,9 @@ use Rattle.memory.specs.Marks.{marked, bits_of}
 use Rattle.nested_loop.specs.Model.{Setup, Truth, has_pairs}
 use Rattle.nested_loop.specs.Loop.{is_pair, output_row, left_matched, right_matched, pairs}
 use Rattle.nested_loop.specs.Machine.{or_marks, from_row}
-use Rattle.probing.specs.declared.lent.JoinOutput.{JoinOutput}
-use Rattle.probing.specs.Lent.{Waiting, waiting_of, waiting_rows, appended, HasRoom}
+use Rattle.probing.specs.declared.output.JoinOutput.{JoinOutput}
+use Rattle.probing.specs.declared.output.Matches.{Matches}
+use Rattle.probing.specs.Lent.{Waiting, waiting_of, waits_in, waiting_rows, appended, HasRoom}
 
 -- the words of the left marks and of the right marks, and the waiting rows
 pub record Met (C : Type 0) : Type 0 where
@@ -15,6 +16,16 @@ pub record Met (C : Type 0) : Type 0 where
 
 abbrev pub met_of : {C : Type 0} → List ℕ → List ℕ → ℕ → List C → Met C
 met_of ls rs n cells = record { lefts = ls; rights = rs; waits = waiting_of n cells }
+
+-- the same of lent memory
+abbrev pub met_in : {C : Type 0} → Matches C → Met C
+met_in m = record { lefts = m.left_marks.now; rights = m.right_marks.now; waits = waits_in m.waiting }
+
+-- in the same lent memory
+pub record SameMemory {C : Type 0} (m m' : Matches C) : Type 0 where
+  pub left_marks : m'.left_marks.ghost_name ≡ m.left_marks.ghost_name
+  pub right_marks : m'.right_marks.ghost_name ≡ m.right_marks.ghost_name
+  pub waiting : m'.waiting.cells.ghost_name ≡ m.waiting.cells.ghost_name
 
 -- a setup with the missing cell, the verdict, the join type and the output list of a call; its other parts may be any
 pub record PairsBy {C : Type 0} (S : Setup C) (none : C) (says : List C → List C → Truth) (o : JoinOutput) : Type 0 where
