@@ -1,4 +1,4 @@
-use Rattle.std.proofs.Common.{◌≡◌, ◌≤◌, min, length, sym, ap, ◌∙◌, arith}
+use Rattle.std.proofs.Common.{◌≤◌, min, length, sym, ap, ◌∙◌, arith}
 use Rattle.memory.specs.Marks.{bits_of}
 use Rattle.memory.specs.Rows.{rows_in}
 use Rattle.probing.specs.Lent.{stretch, waits_in}
