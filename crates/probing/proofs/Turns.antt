@@ -7,8 +7,8 @@ use Rattle.memory.proofs.Cuts.{get_or-rows_from, length-rows_from}
 use Rattle.nested_loop.specs.Model.{Setup}
 use Rattle.memory.specs.declared.rows.Rows.{Rows}
 use Rattle.probing.specs.Lent.{stretch}
-use Rattle.probing.specs.declared.output.Matches.{Matches}
-use Rattle.probing.specs.Met.{Met, met_pair, met_row, met_range, SameMemory}
+use Rattle.probing.specs.declared.pairs.PairMarks.{PairMarks}
+use Rattle.probing.specs.Met.{Met, met_pair, met_row, met_range, SameWords}
 
 -- a stretch that has a first element, and one that has none
 pub stretch-more : {X : Type 0} (xs : List X) (i to : ℕ) (d : X) → i < to → i < length xs → stretch i to xs ≡ get_or xs i d ∷ stretch (i + 1) to xs
@@ -46,6 +46,6 @@ module _ {C : Type 0} (t : Rows C) where
       ap (met_range S (i + 1) (stretch (i + 1) to (rows_in t)) b) (f ∙ ap (λ (x : List C). met_row S i x 0 b m) here)
       ∙ sym (ap (λ (x : List (List C)). met_range S i x b m) (stretch-more (rows_in t) i to [] (omega arith) lt))
 
--- what stays in the same memory twice
-pub still_same : {C : Type 0} {a b c : Matches C} → SameMemory a b → SameMemory b c → SameMemory a c
-still_same x y = record { left_marks = y.left_marks ∙ x.left_marks; right_marks = y.right_marks ∙ x.right_marks; waiting = y.waiting ∙ x.waiting }
+-- words that stay in the same memory twice
+pub still_same : {a b c : PairMarks} → SameWords a b → SameWords b c → SameWords a c
+still_same x y = record { left = y.left ∙ x.left; right = y.right ∙ x.right }

@@ -6,5 +6,5 @@ mod output;
 mod pairs;
 mod rests;
 
-pub use output::{JoinOutput, Matches};
-pub use pairs::Pairing;
+pub use output::JoinOutput;
+pub use pairs::{PairMarks, Pairing};

@@ -3,13 +3,21 @@ ghost use Rattle.std.specs.Prelude.{◌≡◌, ◌+◌, ◌-◌, ◌*◌, ◌≤
 ghost use Rattle.memory.specs.Rows.{rows_in};
 ghost use Rattle.nested_loop.specs.Model.{Setup};
 ghost use Rattle.probing.specs.Lent.{stretch};
-ghost use Rattle.probing.specs.Met.{PairsBy, met_in, met_pair, met_row, met_range, MetRoom, MetRows, SameMemory};
+ghost use Rattle.probing.specs.Met.{PairsBy, met_in, met_pair, met_row, met_range, MetRoom, MetRows, SameWords};
 
-use crate::{JoinOutput, Matches};
+use crate::JoinOutput;
 use cells::Cell;
-use memory::{Rows, mark};
+use memory::{Rows, WaitingRows, mark};
 use std::ops::Range;
 use verdicts::Verdict;
+
+// The words of marks of the left rows, and of the rows of a right batch.
+// The waiting rows are no part of it: through a struct in a struct, the check loses track of the memory that is lent.
+#[derive(Drop)]
+pub struct PairMarks<'left, 'right> {
+    pub left: &'left mut [u64],
+    pub right: &'right mut [u64],
+}
 
 // What pairs are made by: the verdict, and what their output rows are made by.
 #[derive(Drop)]
@@ -27,21 +35,21 @@ impl<V: Verdict> Pairing<'_, V> {
         left: &[V::Cell],
         j: usize,
         right: &[V::Cell],
-        matches: &mut Matches<V::Cell>,
+        marks: &mut PairMarks,
+        waiting: &mut WaitingRows<V::Cell>,
     )
-        ensures memory { SameMemory matches.old matches.new }
-        ensures met { (S : Setup V.Cell) → PairsBy S V.Cell.Cell.missing (V.Verdict.says self.now.verdict.now) self.now.output → met_in matches.new ≡ met_pair S i j left.now right.now (met_in matches.old) }
+        ensures words { SameWords marks.old marks.new }
+        ensures page { waiting.new.cells.ghost_name ≡ waiting.old.cells.ghost_name }
+        ensures met { (S : Setup V.Cell) → PairsBy S V.Cell.Cell.missing (V.Verdict.says self.now.verdict.now) self.now.output → met_in marks.new waiting.new ≡ met_pair S i j left.now right.now (met_in marks.old waiting.old) }
     {
         if !self.verdict.ask(left, right).is_true() {
             return;
         }
-        mark(matches.left_marks, i);
-        mark(matches.right_marks, j);
+        mark(marks.left, i);
+        mark(marks.right, j);
         if self.output.join_type.row().pairs {
             let missing = <V::Cell as Cell>::missing_cell();
-            let _ = matches
-                .waiting
-                .append(self.output.columns, left, right, missing);
+            let _ = waiting.append(self.output.columns, left, right, missing);
         }
     }
 
@@ -51,13 +59,15 @@ impl<V: Verdict> Pairing<'_, V> {
         i: usize,
         left: &[V::Cell],
         right: &Rows<V::Cell>,
-        matches: &mut Matches<V::Cell>,
+        marks: &mut PairMarks,
+        waiting: &mut WaitingRows<V::Cell>,
     )
-        ensures memory { SameMemory matches.old matches.new }
-        ensures met { (S : Setup V.Cell) → PairsBy S V.Cell.Cell.missing (V.Verdict.says self.now.verdict.now) self.now.output → met_in matches.new ≡ met_row S i left.now 0 (rows_in right.now) (met_in matches.old) }
+        ensures words { SameWords marks.old marks.new }
+        ensures page { waiting.new.cells.ghost_name ≡ waiting.old.cells.ghost_name }
+        ensures met { (S : Setup V.Cell) → PairsBy S V.Cell.Cell.missing (V.Verdict.says self.now.verdict.now) self.now.output → met_in marks.new waiting.new ≡ met_row S i left.now 0 (rows_in right.now) (met_in marks.old waiting.old) }
     {
         for j in 0..right.count() {
-            self.join_pair(i, left, j, right.row(j), matches);
+            self.join_pair(i, left, j, right.row(j), marks, waiting);
         }
     }
 
@@ -67,15 +77,17 @@ impl<V: Verdict> Pairing<'_, V> {
         left: &Rows<V::Cell>,
         range: Range<usize>,
         right: &Rows<V::Cell>,
-        matches: &mut Matches<V::Cell>,
+        marks: &mut PairMarks,
+        waiting: &mut WaitingRows<V::Cell>,
     )
-        ensures memory { SameMemory matches.old matches.new }
-        ensures met { (S : Setup V.Cell) → PairsBy S V.Cell.Cell.missing (V.Verdict.says self.now.verdict.now) self.now.output → met_in matches.new ≡ met_range S range.start (stretch range.start range.end (rows_in left.now)) (rows_in right.now) (met_in matches.old) }
-        ensures rows { (S : Setup V.Cell) → PairsBy S V.Cell.Cell.missing (V.Verdict.says self.now.verdict.now) self.now.output → MetRoom S left.now.count right.now.count ((range.end - range.start) * right.now.count) (met_in matches.old) → MetRows S left.now.count right.now.count range.start (stretch range.start range.end (rows_in left.now)) (rows_in right.now) (met_in matches.old) (met_in matches.new) }
-        ensures few { matches.new.waiting.rows ≤ matches.old.waiting.rows + (range.end - range.start) * right.now.count }
+        ensures words { SameWords marks.old marks.new }
+        ensures page { waiting.new.cells.ghost_name ≡ waiting.old.cells.ghost_name }
+        ensures met { (S : Setup V.Cell) → PairsBy S V.Cell.Cell.missing (V.Verdict.says self.now.verdict.now) self.now.output → met_in marks.new waiting.new ≡ met_range S range.start (stretch range.start range.end (rows_in left.now)) (rows_in right.now) (met_in marks.old waiting.old) }
+        ensures rows { (S : Setup V.Cell) → PairsBy S V.Cell.Cell.missing (V.Verdict.says self.now.verdict.now) self.now.output → MetRoom S left.now.count right.now.count ((range.end - range.start) * right.now.count) (met_in marks.old waiting.old) → MetRows S left.now.count right.now.count range.start (stretch range.start range.end (rows_in left.now)) (rows_in right.now) (met_in marks.old waiting.old) (met_in marks.new waiting.new) }
+        ensures few { waiting.new.rows ≤ waiting.old.rows + (range.end - range.start) * right.now.count }
     {
         for i in range.start..range.end.min(left.count()) {
-            self.process_single_left_row_join(i, left.row(i), right, matches);
+            self.process_single_left_row_join(i, left.row(i), right, marks, waiting);
         }
     }
 }

@@ -12,7 +12,8 @@ pub loop-i-preserved : goal.loop-i-preserved
 loop-i-preserved g c =
     let a = c.args in
     record {
-      memory = still_same c.loop-i.invariant.memory c.process_single_left_row_join.ensures.memory;
+      words = still_same c.loop-i.invariant.words c.process_single_left_row_join.ensures.words;
+      page = c.process_single_left_row_join.ensures.page ∙ c.loop-i.invariant.page;
       met = λ S e. range_turn a.left.now S c.loop-i.i a.range.end _ (rows_in a.right.now) _ _ (omega arith) c.row.ensures (c.process_single_left_row_join.ensures.met S e) ∙ c.loop-i.invariant.met S e;
     }
 
@@ -28,14 +29,15 @@ returns g c =
     let none = g.V.Cell.Cell.missing in
     let says = g.V.Verdict.says a.self.now.verdict.now in
     let o = a.self.now.output in
-    let before = met_in a.matches.now in
-    let after = met_in c.loop-i.matches in
+    let before = met_in a.marks.now a.waiting.now in
+    let after = met_in c.loop-i.marks c.loop-i.waiting in
     let end : min to (length t) ≤ c.loop-i.i = omega arith in
     let met : (S : Setup (g.row.V-Cell).Denot) → PairsBy S none says o → after ≡ met_range S from (stretch from to t) b before =
     λ S e. sym (ap (λ x. met_range S c.loop-i.i x b after) (stretch-none t c.loop-i.i to end)) ∙ c.loop-i.invariant.met S e in
     let some = setup_by none none none says o in
     record {
-      memory = c.loop-i.invariant.memory;
+      words = c.loop-i.invariant.words;
+      page = c.loop-i.invariant.page;
       met = met;
       rows = λ S e. met_rows S a.left.now.count a.right.now.count from to t b before after lt lb (met S e);
       few = met_few some a.left.now.count a.right.now.count from to t b before after lt lb (met some (pairs_by none none none says o));
