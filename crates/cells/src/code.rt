@@ -1,9 +1,7 @@
 // A code: one to eight ASCII letters or digits, a letter first, in one number.
-ghost use Rattle.std.specs.Prelude.{◌≡◌, ◌≤◌, true, false, ◌++◌, length, drop, MatchOption};
+ghost use Rattle.std.specs.Prelude.{◌≡◌, ◌≤◌, true, false, ◌++◌, length, drop, ◌==◌, MatchOption};
+ghost use Rattle.std.specs.List.{position_or_len};
 ghost use Rattle.cells.specs.Codes.{is_code, letters, packed};
-
-// What the highest of the eight bytes counts.
-const TOP: u64 = 0x0100_0000_0000_0000;
 
 // Room for the letters of any code.
 pub type CodeBytes = [u8; 8];
@@ -21,25 +19,23 @@ fn is_code(bytes: &[u8]) -> bool
     if bytes.len() < 1 || bytes.len() > 8 || !bytes[0].is_ascii_alphabetic() {
         return false;
     }
-    for b in bytes {
-        if !b.is_ascii_alphanumeric() {
-            return false;
-        }
-    }
-    true
+    bytes.iter().all(|b| b.is_ascii_alphanumeric())
 }
 
 fn pack(bytes: &[u8]) -> u64
     requires { is_code bytes.now ≡ true }
     ensures { result ≡ packed bytes.now }
 {
-    let mut bits = 0;
-    let mut i = bytes.len();
-    while i > 0 {
-        i -= 1;
-        bits = bytes[i] as u64 * TOP + bits / 256;
-    }
-    bits
+    let mut all = [0; 8];
+    all[..bytes.len()].copy_from_slice(bytes);
+    u64::from_be_bytes(all)
+}
+
+// How many bytes stand before the first zero.
+fn filled(all: &CodeBytes) -> usize
+    ensures { result ≡ position_or_len (λ b. b == 0) all.now }
+{
+    all.iter().position(|b| *b == 0).unwrap_or(all.len())
 }
 
 impl Code {
@@ -67,14 +63,9 @@ impl Code {
         ensures few { result ≤ 8 }
         ensures bytes { out.new ≡ letters self.bits ++ drop result out.old }
     {
-        let mut n = 0;
-        let Code { bits } = self;
-        let mut rest = bits;
-        while rest != 0 {
-            out[n] = (rest / TOP) as u8;
-            rest = rest % TOP * 256;
-            n += 1;
-        }
-        n
+        let all = self.bits.to_be_bytes();
+        let count = filled(&all);
+        out[..count].copy_from_slice(&all[..count]);
+        count
     }
 }

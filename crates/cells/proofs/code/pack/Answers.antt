@@ -1,28 +1,25 @@
-use Rattle.std.proofs.Common.{◌≡◌, ◌+◌, ◌-◌, ◌*◌, ◌/◌, get_or, drop, sym, ap, ◌∙◌, arith}
-use Rattle.std.proofs.lemmas.List.{drop_all}
-use Rattle.cells.specs.Codes.{packed}
-use Rattle.cells.proofs.Packing.{named, packed_more}
+use Rattle.std.proofs.Common.{ℕ, ◌-◌, ◌≤◌, List, ◌++◌, length, replicate, sym, ap₂, ◌∙◌, arith, length-take-le}
+use Rattle.std.specs.Int.{w64, from_be_bytes}
+use Rattle.cells.proofs.Bytes.{packed_bytes, after-zeros}
+use Rattle.cells.proofs.Packing.{named}
 use Rattle.cells.proofs.code.pack.Goals as goal
 
-pub loop-i-init : goal.loop-i-init
-unfolding packed
-loop-i-init c = (omega arith, omega arith, sym (ap packed (drop_all _ c.args.bytes.now (omega arith))))
+abbrev zeros : List ℕ
+zeros = replicate 8 0
 
-pub bounds-bytes-i : goal.bounds-bytes-i
-bounds-bytes-i c = omega arith
+pub slice_bounds-all-end : goal.slice_bounds-all-end
+slice_bounds-all-end c = (named c.args.bytes.now c.requires).few
 
-pub overflow_add-bits : goal.overflow_add-bits
-overflow_add-bits c = omega arith
+pub slice_bounds-copy_from_slice-end : goal.slice_bounds-copy_from_slice-end
+slice_bounds-copy_from_slice-end c = sym (length-take-le _ zeros (named c.args.bytes.now c.requires).few)
 
-pub loop-i-preserved : goal.loop-i-preserved
-loop-i-preserved c =
-    let n = named c.args.bytes.now c.requires in
-    let bs = c.args.bytes.now in
-    let j = c.loop-i.i - 1 in
-    let same : j + 1 ≡ c.loop-i.i = omega arith in
-    let step = packed_more bs j n.few (omega arith) in
-    let before : packed (drop (j + 1) bs) ≡ c.loop-i.bits = ap (λ x. packed (drop x bs)) same ∙ sym c.loop-i.invariant.2 in
-    (omega arith, omega arith, sym (step ∙ ap (λ x. get_or bs j 0 * 72057594037927936 + x / 256) before))
+pub copy_from_slice-requires : goal.copy_from_slice-requires
+copy_from_slice-requires c = length-take-le _ zeros (named c.args.bytes.now c.requires).few
 
 pub returns : goal.returns
-returns c = let z : c.loop-i.i ≡ 0 = omega arith in c.loop-i.invariant.2 ∙ ap (λ x. packed (drop x c.args.bytes.now)) z
+returns c =
+    let bs = c.args.bytes.now in
+    let few : length bs ≤ 8 = (named bs c.requires).few in
+    c.from_be_bytes.ensures
+    ∙ ap₂ (λ (xs ys : List ℕ). from_be_bytes w64 (xs ++ ys)) c.copy_from_slice.ensures.after (after-zeros (length bs))
+    ∙ packed_bytes bs (8 - length bs) (omega arith)

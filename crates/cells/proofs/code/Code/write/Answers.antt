@@ -1,56 +1,25 @@
-use Rattle.std.proofs.Common.{◌≡◌, ◌+◌, ◌*◌, ◌/◌, ◌%◌, ◌<◌, [], ◌∷◌, ◌++◌, length, take, drop, sym, refl, ap, ◌∙◌, append_assoc, append-nil, arith, length-set}
-use Rattle.std.proofs.lemmas.List.{take-append-drop, take_more_set, drop-set-lt, drop-drop}
+use Rattle.std.proofs.Common.{◌≡◌, ℕ, ◌-◌, eqb, List, ◌++◌, length, take, drop, replicate, sym, ap, ◌∙◌}
+use Rattle.std.specs.List.{position_or_len}
+use Rattle.std.proofs.lemmas.List.{take_at}
 use Rattle.cells.specs.Codes.{letters}
-use Rattle.cells.proofs.Packing.{named, letters-more, letters-none}
+use Rattle.cells.proofs.Packing.{named}
+use Rattle.cells.proofs.Bytes.{code_bytes, zero_behind}
 use Rattle.cells.proofs.code.Code.write.Goals as goal
-use Rattle.cells.proofs.code.Code.write.Goals.{In-loop-rest}
+use Rattle.cells.proofs.code.Code.write.Goals.{After-filled-count}
 
-fact : (c : In-loop-rest) → (letters c.loop-rest.rest ≡ c.loop-rest.rest / 72057594037927936 ∷ letters (c.loop-rest.rest % 72057594037927936 * 256)) × (c.loop-rest.n < 8)
-fact c =
-    let m = letters-more c.loop-rest.rest c.loop-rest.invariant.1 c.loop-rest-test.true in
-    let n = named (letters c.args.self.bits) c.args.self.named in
-    (m, omega (arith, ap length m, n.few))
+counted : (c : After-filled-count) → c.filled-count.result ≡ length (letters c.args.self.bits)
+counted c =
+    let v = c.args.self.bits in
+    c.filled-count.ensures
+    ∙ ap (position_or_len (λ b. eqb b 0)) (c.to_be_bytes-all.ensures ∙ code_bytes v c.args.self.named)
+    ∙ zero_behind (letters v) (8 - length (letters v)) (named (letters v) c.args.self.named).signs
 
-pub loop-rest-init : goal.loop-rest-init
-loop-rest-init c = (c.told-out, omega arith, omega arith, refl, refl)
+pub returns-clause-count : goal.returns-clause-count
+returns-clause-count c = counted (goal.at.returns-clause-count c).After-filled-count
 
-pub overflow_cast-out : goal.overflow_cast-out
-overflow_cast-out c = omega arith
-
-pub bounds-out-n : goal.bounds-out-n
-bounds-out-n c = (fact (goal.at.bounds-out-n c).In-loop-rest).1
-
-pub overflow_add-n : goal.overflow_add-n
-overflow_add-n c = omega (arith, (fact (goal.at.overflow_add-n c).In-loop-rest).1)
-
-pub loop-rest-smaller : goal.loop-rest-smaller
-loop-rest-smaller c = omega (arith, ap length (fact (goal.at.loop-rest-smaller c).In-loop-rest).0)
-
-pub loop-rest-preserved : goal.loop-rest-preserved
-loop-rest-preserved c =
-    let f = fact (goal.at.loop-rest-preserved c).In-loop-rest in
-    let n = c.loop-rest.n in
-    let out = c.loop-rest.out in
-    let v = c.loop-rest.rest in
-    let b = v / 72057594037927936 in
-    let at : n < length out = omega arith in
-    let t = take_more_set out n b at in (
-      length-set out n b ∙ c.loop-rest.invariant.0,
-      omega arith,
-      omega (arith, ap length f.0),
-      ap (λ x. x ++ letters (v % 72057594037927936 * 256)) t ∙ append_assoc (take n out) (b ∷ []) _ ∙ ap (λ x. take n out ++ x) (sym f.0) ∙ c.loop-rest.invariant.3,
-      drop-set-lt (n + 1) out n b (omega arith) ∙ sym (drop-drop 1 n out) ∙ ap (drop 1) c.loop-rest.invariant.4 ∙ drop-drop 1 n c.args.out.now,
-    )
-
-pub returns : goal.returns
-returns c =
-    let n = c.loop-rest.n in
-    let out = c.loop-rest.out in
-    let z = letters-none c.loop-rest.rest (omega arith) in
-    let front : take n out ≡ letters c.args.self.bits = sym (append-nil _) ∙ ap (λ x. take n out ++ x) (sym z) ∙ c.loop-rest.invariant.3 in
-    let count : n ≡ length (letters c.args.self.bits) = omega (arith, ap length z) in
-    record {
-      count = count;
-      few = omega (arith, (named (letters c.args.self.bits) c.args.self.named).few);
-      bytes = sym (take-append-drop n out) ∙ ap (λ x. x ++ drop n out) front ∙ ap (λ x. letters c.args.self.bits ++ x) c.loop-rest.invariant.4;
-    }
+pub returns-clause-bytes : goal.returns-clause-bytes
+returns-clause-bytes c =
+    let v = c.args.self.bits in
+    let n = c.filled-count.result in
+    let front = ap (take n) (c.to_be_bytes-all.ensures ∙ code_bytes v c.args.self.named) ∙ take_at (letters v) (replicate (8 - length (letters v)) 0) n (sym (counted (goal.at.returns-clause-bytes c).After-filled-count)) in
+    ap (λ (xs : List ℕ). xs ++ drop n c.args.out.now) (c.copy_from_slice.ensures.after ∙ front)
