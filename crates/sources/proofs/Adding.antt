@@ -1,6 +1,6 @@
 -- One item more is added to what was brought.
 use Rattle.std.proofs.Common.{◌≡◌, ℕ, ◌+◌, ◌*◌, Bool, false, cond, List, [], ◌∷◌, ◌++◌, length, take, vec_items, count_by, sym, refl, ap, ◌∙◌, arith}
-use Rattle.std.specs.List.{AllByRecursion}
+use Rattle.std.specs.Prelude.{All}
 use Rattle.std.proofs.lemmas.List.{append_assoc, append-nil, length-append}
 use Rattle.std.proofs.lemmas.List.Sums.{sum_by_push}
 use Rattle.memory.specs.Items.{Item, batch, wait, fault}
@@ -74,15 +74,3 @@ module _ {C : Type 0} where
         (b ∙ count_same is_batch_item taken (fault cause depth) d.batches h.batches_are refl)
         (w ∙ count_same is_wait_item taken (fault cause depth) d.waits h.waits_are refl)
         (count_more is_fault_item taken (fault cause depth) d.faults d'.faults h.faults_are f)
-
-  -- a batch that was asked for, and whose cells were copied from the page
-  pub took_batch : (most w n : ℕ) (items items' : List (Item C)) (page more : List C) (d d' : Drained C) → AllByRecursion (Fits most w) items → Taken items items' page (Batch n) → more ≡ take (n * w) page →
-      vec_items d'.cells ≡ vec_items d.cells ++ more → d'.rows ≡ counted (d.rows + n) → d'.batches ≡ counted (d.batches + 1) → d'.waits ≡ d.waits → d'.faults ≡ d.faults →
-      (item : Item C) × (items ≡ item ∷ items') × ((taken : List (Item C)) → Brought taken d → Brought (taken ++ item ∷ []) d')
-  took_batch most w n items items' page more d d' fits t m c r b x f = (
-    batch t.0,
-    t.1,
-    λ taken h. brought_batch taken d d' h t.0
-        (c ∙ ap (λ y. vec_items d.cells ++ y) (m ∙ batch_cells most w n items items' page fits t))
-        (r ∙ ap (λ k. counted (d.rows + k)) t.2) b x f,
-  )

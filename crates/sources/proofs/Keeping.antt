@@ -6,7 +6,6 @@ use Rattle.std.proofs.lemmas.List.Elements.{filter_more}
 use Rattle.std.proofs.lemmas.List.{append-nil, drop-drop, flat_map_more, length-append, length-drop}
 use Rattle.memory.specs.Rows.{row_at, rows_from, cells_of}
 use Rattle.memory.proofs.Cuts.{get_or-rows_from, length-rows_from}
-use Rattle.sources.specs.Present.{has_cell}
 
 -- i rows and one more
 pub one_row_more : (i w : ℕ) → (i + 1) * w ≡ i * w + w
@@ -16,16 +15,6 @@ pub row_within : (i n w : ℕ) (len : ℕ) → i < n → n * w ≤ len → i * w
 row_within i n w len lt room = omega (arith, one_row_more i w, mul-le-mul_right {m = i + 1} {n = n} w (omega arith))
 
 module _ {C : Type 0} where
-  pub has_at : (is_missing : C → Bool) (column : ℕ) (row : List C) (x : C) → column < length row → x ≡ get_or row column x → has_cell is_missing column row ≡ not (is_missing x)
-  has_at is_missing column [] x lt e = absurd (omega arith)
-  has_at is_missing zero (y ∷ ys) x lt e = ap (λ z. not (is_missing z)) (sym e)
-  has_at is_missing (suc column) (y ∷ ys) x lt e = has_at is_missing column ys x (omega arith) e
-
-  pub has_past : (is_missing : C → Bool) (column : ℕ) (row : List C) → length row ≤ column → has_cell is_missing column row ≡ false
-  has_past is_missing column [] le = refl
-  has_past is_missing zero (y ∷ ys) le = absurd (omega arith)
-  has_past is_missing (suc column) (y ∷ ys) le = has_past is_missing column ys (omega arith)
-
   -- of the first i of n rows, k are kept, and stand in front; from row i on the page is as it was
   pub record Kept (p : List C → Bool) (w n : ℕ) (page0 page : List C) (k i : ℕ) : Type 0 where
     pub front : take (k * w) page ≡ cells_of (filter p (take i (rows_from n w page0)))

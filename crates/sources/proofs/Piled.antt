@@ -1,7 +1,7 @@
 -- Present layers on one another.
 use Rattle.std.proofs.Common.{◌≡◌, ℕ, suc, ◌+◌, min, Bool, true, false, cond, ◌&&◌, List, [], ◌∷◌, ◌++◌, map, length, filter, sym, refl, ap, ◌∙◌, arith}
-use Rattle.std.specs.List.{AllByRecursion}
-use Rattle.std.proofs.lemmas.List.Elements.{filter-append}
+use Rattle.std.specs.Prelude.{All}
+use Rattle.std.proofs.lemmas.List.Elements.{All-head, All-tail, filter-append}
 use Rattle.memory.specs.Items.{Item, batch, wait, fault}
 use Rattle.sources.specs.Drained.{rows_of}
 use Rattle.sources.specs.Fits.{Fits}
@@ -23,14 +23,15 @@ module _ {X : Type 0} where
   keep_both p q (x ∷ xs) = keep_one q (p x) x (filter p xs) (filter (λ x. p x && q x) xs) (keep_both p q xs)
 
 module _ {C : Type 0} (is_missing : C → Bool) where
-  no_layer : (most w : ℕ) (items : List (Item C)) → AllByRecursion (Fits most w) items → items ≡ map (present_all is_missing []) items
+  no_layer : (most w : ℕ) (items : List (Item C)) → All (Fits most w) items → items ≡ map (present_all is_missing []) items
   no_layer most w [] h = refl
   no_layer most w (batch rows ∷ items) h =
-      ap (λ r. batch r ∷ items) (sym (keep_all rows)) ∙ ap (λ r. batch (filter (has_all is_missing []) rows) ∷ r) (no_layer most w items h.1)
-  no_layer most w (wait ∷ items) h = ap (λ r. wait ∷ r) (no_layer most w items h.1)
+      ap (λ r. batch r ∷ items) (sym (keep_all rows)) ∙ ap (λ r. batch (filter (has_all is_missing []) rows) ∷ r) (no_layer most w items (All-tail (Fits most w) (batch rows) items h))
+  no_layer most w (wait ∷ items) h = ap (λ r. wait ∷ r) (no_layer most w items (All-tail (Fits most w) wait items h))
   no_layer most w (fault cause depth ∷ items) h =
-      let same : depth ≡ min (depth + 0) 255 = omega (arith, h.0.2) in
-      ap (λ d. fault cause d ∷ items) same ∙ ap (λ r. fault cause (min (depth + 0) 255) ∷ r) (no_layer most w items h.1)
+      let fits : Fits {C = C} most w (fault cause depth) = All-head (Fits most w) (fault cause depth) items h in
+      let same : depth ≡ min (depth + 0) 255 = omega (arith, fits.2) in
+      ap (λ d. fault cause d ∷ items) same ∙ ap (λ r. fault cause (min (depth + 0) 255) ∷ r) (no_layer most w items (All-tail (Fits most w) (fault cause depth) items h))
 
   one_layer : (column : ℕ) (columns : List ℕ) (items : List (Item C)) → map (present_all is_missing columns) (map (present is_missing column) items) ≡ map (present_all is_missing (column ∷ columns)) items
   one_layer column columns [] = refl
@@ -43,7 +44,7 @@ module _ {C : Type 0} (is_missing : C → Bool) where
       ap (λ d. fault cause d ∷ map (present_all is_missing columns) (map (present is_missing column) items)) sum
       ∙ ap (λ r. fault cause (min (depth + suc (length columns)) 255) ∷ r) (one_layer column columns items)
 
-  pub composed : (most w : ℕ) (columns : List ℕ) (items : List (Item C)) → AllByRecursion (Fits most w) items → piled is_missing columns items ≡ map (present_all is_missing columns) items
+  pub composed : (most w : ℕ) (columns : List ℕ) (items : List (Item C)) → All (Fits most w) items → piled is_missing columns items ≡ map (present_all is_missing columns) items
   composed most w [] items h = no_layer most w items h
   composed most w (column ∷ columns) items h =
       composed most w columns (map (present is_missing column) items) (present_fits is_missing column most w items h) ∙ one_layer column columns items

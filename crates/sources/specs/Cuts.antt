@@ -1,6 +1,11 @@
 -- Rows cut into batches.
 use Rattle.std.specs.Prelude.{ℕ, ◌+◌, ◌-◌, ◌/◌, List, [], ◌∷◌, map, length, take, drop, replicate}
 use Rattle.memory.specs.Items.{Item, batch}
+use Rattle.memory.specs.Rows.{rows_from}
+
+-- the whole rows of w cells that lie in memory, one behind the other
+abbrev pub whole_rows : {C : Type 0} → ℕ → List C → List (List C)
+whole_rows w cells = rows_from (length cells / w) w cells
 
 -- a list cut from the front into parts of the lengths given
 abbrev pub cut_by : {X : Type 0} → List ℕ → List X → List (List X)

@@ -48,11 +48,3 @@ abbrev pub Drains : {C S : Type 0} → (S → List (Item C)) → ℕ → S → S
 Drains items needed s s' page page' (Ok d) = (needed ≤ length page) × (items s' ≡ []) × Brought (items s) d
 Drains items needed s s' page page' (Err PageTooShort) = (length page < needed) × (s' ≡ s) × (page' ≡ page)
 Drains {C} items needed s s' page page' (Err NoMemory) = (needed ≤ length page) × ((taken : List (Item C)) × (items s ≡ taken ++ items s'))
-
--- one item more is taken: true, and it is counted; false at the end
-abbrev pub TakesOne : {C S : Type 0} → (S → List (Item C)) → ℕ → S → S → List C → List C → Drained C → Drained C → Result Bool DrainError → Type 0
-TakesOne {C} items needed s s' page page' d d' (Ok true) =
-    (needed ≤ length page) × ((item : Item C) × (items s ≡ item ∷ items s') × ((taken : List (Item C)) → Brought taken d → Brought (taken ++ item ∷ []) d'))
-TakesOne items needed s s' page page' d d' (Ok false) = (needed ≤ length page) × (items s ≡ []) × (items s' ≡ []) × (d' ≡ d)
-TakesOne items needed s s' page page' d d' (Err PageTooShort) = (length page < needed) × (s' ≡ s) × (page' ≡ page)
-TakesOne {C} items needed s s' page page' d d' (Err NoMemory) = (needed ≤ length page) × ((item : Item C) × (items s ≡ item ∷ items s'))

@@ -1,12 +1,11 @@
 -- The layer that keeps the rows with a cell in a column.
-use Rattle.std.specs.Prelude.{ℕ, zero, suc, ◌+◌, min, Bool, false, not, List, [], ◌∷◌, filter}
+use Rattle.std.specs.Prelude.{ℕ, ◌+◌, min, Bool, false, not, List, slice_get, filter}
+use Rattle.std.specs.Option.{option_map_or}
 use Rattle.memory.specs.Items.{Item, batch, wait, fault}
 
 -- the row has a cell in the column, and that is not missing
 abbrev pub has_cell : {C : Type 0} → (C → Bool) → ℕ → List C → Bool
-has_cell is_missing column [] = false
-has_cell is_missing zero (x ∷ xs) = not (is_missing x)
-has_cell is_missing (suc column) (x ∷ xs) = has_cell is_missing column xs
+has_cell is_missing column row = option_map_or (λ x. not (is_missing x)) (slice_get row column) false
 
 -- one deeper, at most 255
 abbrev pub deeper : ℕ → ℕ

@@ -3,15 +3,15 @@ use Rattle.std.specs.Prelude.{◌≡◌, ℕ, Bool, true, false, ◌&&◌, nat_l
 use Rattle.memory.specs.Rows.{are_rows}
 use Rattle.sources.specs.declared.answer.SourceRefusal.{SourceRefusal}
 use Rattle.sources.specs.declared.answer.SourceRefusal.TheVariants.{PageTooShort}
-use Rattle.sources.specs.declared.refusal.TableRefusal.{TableRefusal}
-use Rattle.sources.specs.declared.refusal.TableRefusal.TheVariants.{BatchLength, NotWholeRows}
+use Rattle.sources.specs.declared.refusal.ShapeRefusal.{ShapeRefusal}
+use Rattle.sources.specs.declared.refusal.ShapeRefusal.TheVariants.{BatchLength, NotWholeRows}
 
 -- what a source answers that is asked with a short page
 abbrev pub ask_number : SourceRefusal → ℕ
 ask_number PageTooShort = 13
 
 -- what making a table source is refused with
-abbrev pub table_number : TableRefusal → ℕ
+abbrev pub table_number : ShapeRefusal → ℕ
 table_number BatchLength = 14
 table_number NotWholeRows = 16
 
@@ -20,6 +20,6 @@ abbrev pub is_batch : ℕ → Bool
 is_batch n = nat_le 1 n && nat_le n 1024
 
 -- why so many cells, columns and rows to a batch make no table source; the smaller number first
-abbrev pub Refuses : (cells columns batch : ℕ) → TableRefusal → Type 0
+abbrev pub Refuses : (cells columns batch : ℕ) → ShapeRefusal → Type 0
 Refuses cells columns batch BatchLength = is_batch batch ≡ false
 Refuses cells columns batch NotWholeRows = (is_batch batch ≡ true) × (are_rows columns cells ≡ false)

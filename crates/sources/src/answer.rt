@@ -4,7 +4,7 @@ ghost use Rattle.sources.specs.Present.{deeper};
 ghost use Rattle.sources.specs.Refusals.{ask_number};
 
 // A fault of a source: its cause, and how many layers it came through.
-#[derive(Clone, Copy)]
+#[derive(Clone, Copy, Debug, PartialEq, Eq)]
 pub struct Fault {
     pub cause: u8,
     pub depth: u8,
@@ -23,7 +23,7 @@ impl Fault {
 }
 
 // The rows of a batch stand at the front of the page that the source was asked with.
-#[derive(Clone, Copy)]
+#[derive(Clone, Copy, Debug, PartialEq, Eq)]
 pub enum SourceAnswer {
     Batch(usize),
     Wait,
@@ -32,9 +32,9 @@ pub enum SourceAnswer {
 }
 
 // A refusal is no item: a fault may have the cause 13 too.
-#[derive(Clone, Copy, PartialEq)]
+#[derive(Clone, Copy, Debug, PartialEq, Eq)]
 pub enum SourceRefusal {
-    PageTooShort,
+    PageTooShort = 13,
 }
 
 impl SourceRefusal {
@@ -42,8 +42,6 @@ impl SourceRefusal {
     pub fn number(self) -> u8
         ensures { result ≡ ask_number self }
     {
-        match self {
-            SourceRefusal::PageTooShort => 13,
-        }
+        self as u8
     }
 }

@@ -16,7 +16,7 @@ pub struct Drained<C> {
     pub faults: u64,
 }
 
-#[derive(Clone, Copy, PartialEq)]
+#[derive(Clone, Copy, Debug, PartialEq, Eq)]
 pub enum DrainError {
     PageTooShort,
     NoMemory,
@@ -28,7 +28,7 @@ impl DrainError {
         ensures { result ≡ drain_number self }
     {
         match self {
-            DrainError::PageTooShort => Some(13),
+            DrainError::PageTooShort => Some(SourceRefusal::PageTooShort.number()),
             DrainError::NoMemory => None,
         }
     }

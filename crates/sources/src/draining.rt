@@ -1,6 +1,6 @@
 // Draining a source: asking until the end.
 ghost use Rattle.std.specs.Prelude.{◌≡◌, ◌*◌};
-ghost use Rattle.sources.specs.Drained.{Drains, TakesOne};
+ghost use Rattle.sources.specs.Drained.{Drains};
 
 use crate::{DrainError, Drained, Source, SourceAnswer};
 use std::alloc::Global;
@@ -14,6 +14,7 @@ pub fn drain<S: Source>(
     ensures items { Drains S.Source.items (S.Source.most * S.Source.width source.old) source.old source.new page.old page.new result }
     ensures width { S.Source.width source.new ≡ S.Source.width source.old }
 {
+    let columns = source.columns();
     let mut brought = Drained {
         cells: Vec::new(heap),
         rows: 0,
@@ -21,30 +22,16 @@ pub fn drain<S: Source>(
         waits: 0,
         faults: 0,
     };
-    while take_item(&mut brought, source, page)? {}
-    Ok(brought)
-}
-
-// Asks once, and adds the item; false at the end.
-fn take_item<S: Source>(
-    brought: &mut Drained<S::Cell>,
-    source: &mut S,
-    page: &mut [S::Cell],
-) -> Result<bool, DrainError>
-    ensures item { TakesOne S.Source.items (S.Source.most * S.Source.width source.old) source.old source.new page.old page.new brought.old brought.new result }
-    ensures width { S.Source.width source.new ≡ S.Source.width source.old }
-{
-    let columns = source.columns();
-    let answer = source.ask(page)?;
-    match answer {
-        SourceAnswer::Batch(rows) => {
-            brought.cells.extend_from_slice(&page[0..rows * columns])?;
-            brought.rows = brought.rows.saturating_add(rows as u64);
-            brought.batches = brought.batches.saturating_add(1);
+    loop {
+        match source.ask(page)? {
+            SourceAnswer::Batch(rows) => {
+                brought.cells.extend_from_slice(&page[..rows * columns])?;
+                brought.rows = brought.rows.saturating_add(rows as u64);
+                brought.batches = brought.batches.saturating_add(1);
+            }
+            SourceAnswer::Wait => brought.waits = brought.waits.saturating_add(1),
+            SourceAnswer::Fault(_) => brought.faults = brought.faults.saturating_add(1),
+            SourceAnswer::End => return Ok(brought),
         }
-        SourceAnswer::Wait => brought.waits = brought.waits.saturating_add(1),
-        SourceAnswer::Fault(_) => brought.faults = brought.faults.saturating_add(1),
-        SourceAnswer::End => return Ok(false),
     }
-    Ok(true)
 }

@@ -10,10 +10,11 @@ use memory::row_at;
 fn has_cell<C: Cell>(row: &[C], column: usize) -> bool
     ensures { result ≡ has_cell C.Cell.is_missing column row.now }
 {
-    column < row.len() && !row[column].is_missing()
+    row.get(column).is_some_and(|cell| !cell.is_missing())
 }
 
 // Moves the rows that have a cell in a column to the front of the page, in order, and counts them.
+#[tactic(auto, using(crate::proofs::Keeping::row_within))]
 pub(crate) fn keep_rows<C: Cell>(
     page: &mut [C],
     columns: usize,

@@ -5,15 +5,11 @@ use crate::Source;
 use cells::Cell;
 
 // A table source brings each row of its table once, in order, in whole batches with the remainder last.
-pub fn table_brings_rows<C: Cell>() -> u8
+pub fn table_brings_rows<C: Cell>()
     ensures { TableBrings C }
-{
-    0
-}
+{}
 
 // Present layers over any source, piled to any height, have the meaning composed of theirs.
-pub fn piles_compose<S: Source>() -> u8
+pub fn piles_compose<S: Source>()
     ensures { PilesCompose S.Cell.Cell.is_missing S.Source.items }
-{
-    0
-}
+{}

@@ -19,7 +19,7 @@ pub use draining::drain;
 pub use laws::{piles_compose, table_brings_rows};
 pub use pile::rows_with_both;
 pub use present::Present;
-pub use refusal::TableRefusal;
+pub use refusal::ShapeRefusal;
 pub use shape::TableShape;
 pub use source::Source;
 pub use table::TableSource;

@@ -50,15 +50,12 @@ impl<S: Source> Source for Present<S> {
 
     fn ask(&mut self, page: &mut [S::Cell]) -> Result<SourceAnswer, SourceRefusal> {
         let columns = self.columns();
-        let answer = self.inner.ask(page)?;
-        match answer {
+        Ok(match self.inner.ask(page)? {
             SourceAnswer::Batch(rows) => {
-                let count = keep_rows(page, columns, rows, self.column);
-                Ok(SourceAnswer::Batch(count))
+                SourceAnswer::Batch(keep_rows(page, columns, rows, self.column))
             }
-            SourceAnswer::Wait => Ok(SourceAnswer::Wait),
-            SourceAnswer::Fault(fault) => Ok(SourceAnswer::Fault(fault.deeper())),
-            SourceAnswer::End => Ok(SourceAnswer::End),
-        }
+            SourceAnswer::Fault(fault) => SourceAnswer::Fault(fault.deeper()),
+            other => other,
+        })
     }
 }

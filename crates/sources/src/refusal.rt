@@ -1,21 +1,18 @@
-// Why a table source is not made.
+// Why cells make no table.
 ghost use Rattle.std.specs.Prelude.{◌≡◌};
 ghost use Rattle.sources.specs.Refusals.{table_number};
 
-#[derive(Clone, Copy, PartialEq)]
-pub enum TableRefusal {
-    BatchLength,
-    NotWholeRows,
+#[derive(Clone, Copy, Debug, PartialEq, Eq)]
+pub enum ShapeRefusal {
+    BatchLength = 14,
+    NotWholeRows = 16,
 }
 
-impl TableRefusal {
+impl ShapeRefusal {
     // The number by which the refusal goes.
     pub fn number(self) -> u8
         ensures { result ≡ table_number self }
     {
-        match self {
-            TableRefusal::BatchLength => 14,
-            TableRefusal::NotWholeRows => 16,
-        }
+        self as u8
     }
 }

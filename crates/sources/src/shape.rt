@@ -3,33 +3,33 @@ ghost use Rattle.std.specs.Prelude.{◌≡◌, ◌*◌, ◌≤◌, true, MatchRe
 ghost use Rattle.memory.specs.Rows.{are_rows};
 ghost use Rattle.sources.specs.Refusals.{is_batch, Refuses};
 
-use crate::TableRefusal;
+use crate::ShapeRefusal;
+use memory::ColumnCount;
 
 #[derive(Clone, Copy)]
 pub struct TableShape {
     pub(crate) rows: usize,
-    pub(crate) columns: usize,
+    pub(crate) columns: ColumnCount,
     pub(crate) batch: usize,
-    ghost some: { 1 ≤ columns },
-    ghost narrow: { columns ≤ 16 },
     ghost filled: { 1 ≤ batch },
     ghost small: { batch ≤ 1024 },
 }
 
 impl TableShape {
     // So many cells as rows of so many columns, in batches of so many rows.
-    pub fn check(cells: usize, columns: usize, batch: usize) -> Result<TableShape, TableRefusal>
-        ensures { MatchResult result (λ t. (is_batch batch ≡ true) × (are_rows columns cells ≡ true) × (t.rows * columns ≡ cells) × (t.columns ≡ columns) × (t.batch ≡ batch)) (Refuses cells columns batch) }
+    pub fn check(cells: usize, columns: usize, batch: usize) -> Result<TableShape, ShapeRefusal>
+        ensures { MatchResult result (λ t. (is_batch batch ≡ true) × (are_rows columns cells ≡ true) × (t.rows * columns ≡ cells) × (t.columns.count ≡ columns) × (t.batch ≡ batch)) (Refuses cells columns batch) }
     {
         if batch < 1 || batch > 1024 {
-            return Err(TableRefusal::BatchLength);
+            return Err(ShapeRefusal::BatchLength);
         }
-        if columns < 1 || columns > 16 || cells % columns != 0 {
-            return Err(TableRefusal::NotWholeRows);
+        let width = ColumnCount::new(columns).ok_or(ShapeRefusal::NotWholeRows)?;
+        if cells % columns != 0 {
+            return Err(ShapeRefusal::NotWholeRows);
         }
         Ok(TableShape {
             rows: cells / columns,
-            columns,
+            columns: width,
             batch,
         })
     }

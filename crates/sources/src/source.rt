@@ -1,6 +1,5 @@
 // What a source is.
-ghost use Rattle.std.specs.Prelude.{◌≡◌, ℕ, ◌*◌, ◌≤◌, List};
-ghost use Rattle.std.specs.List.{AllByRecursion};
+ghost use Rattle.std.specs.Prelude.{◌≡◌, ℕ, ◌*◌, ◌≤◌, List, All};
 ghost use Rattle.memory.specs.Items.{Item};
 ghost use Rattle.sources.specs.Asked.{Asked};
 ghost use Rattle.sources.specs.Fits.{Fits};
@@ -27,9 +26,9 @@ pub trait Source {
 
     ghost narrow: { (s : Self) → width s ≤ 16 };
 
-    ghost fits: { (s : Self) → AllByRecursion (Fits most (width s)) (items s) };
+    ghost fits: { (s : Self) → All (Fits most (width s)) (items s) };
 
-    // S, as a proof can use it where the kind of source is not known.
+    // S where the kind of source is not known. A ghost S beside the constant was tried: an impl that names a lifetime cannot have one yet.
     fn largest() -> usize
         ensures { result ≡ most };
 

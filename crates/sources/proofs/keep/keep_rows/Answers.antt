@@ -8,23 +8,6 @@ use Rattle.sources.proofs.Keeping.{row_within, kept_yes, kept_no}
 use Rattle.sources.proofs.keep.keep_rows.Goals as goal
 use Rattle.sources.proofs.keep.keep_rows.Goals.{then-has_cell, else-has_cell}
 
-pub overflow_mul-from : goal.overflow_mul-from
-overflow_mul-from g c = omega (arith, row_within c.loop-i.i c.args.rows c.args.columns (length c.args.page.now) (omega arith) (omega arith))
-
-pub overflow_add-from : goal.overflow_add-from
-overflow_add-from g c = omega (arith, row_within c.loop-i.i c.args.rows c.args.columns (length c.args.page.now) (omega arith) (omega arith))
-
-pub overflow_mul-count : goal.overflow_mul-count
-overflow_mul-count g c =
-    let low : c.loop-i.count * c.args.columns ≤ c.loop-i.i * c.args.columns = mul-le-mul_right c.args.columns c.loop-i.invariant.behind in
-    omega (arith, row_within c.loop-i.i c.args.rows c.args.columns (length c.args.page.now) (omega arith) (omega arith))
-
-pub copy_within-requires : goal.copy_within-requires
-copy_within-requires g c =
-    let low : c.loop-i.count * c.args.columns ≤ c.loop-i.i * c.args.columns = mul-le-mul_right c.args.columns c.loop-i.invariant.behind in
-    let here = row_within c.loop-i.i c.args.rows c.args.columns (length c.args.page.now) (omega arith) (omega arith) in
-    record { start_le_end = omega arith; in_bounds = omega arith; dest_in_bounds = omega arith; not_exhausted = tt }
-
 pub loop-i-preserved : goal.loop-i-preserved
 loop-i-preserved g c =
     let a = c.args in

@@ -1,22 +1,21 @@
-use Rattle.std.proofs.Common.{◌*◌, ◌≤◌, length, ap, arith}
+use Rattle.std.proofs.Common.{arith}
 use Rattle.sources.proofs.Layers.{batch_room, layer_batch}
 use Rattle.sources.proofs.present.PresentSource.ask.Goals as goal
 
-pub keep_rows-count-requires : goal.keep_rows-count-requires
-keep_rows-count-requires g c =
+pub keep_rows-requires : goal.keep_rows-requires
+keep_rows-requires g c =
     let source = g.S.Source in
     let s = c.args.self.now.inner in
-    let taken = rw c.in-Batch.is at c.in_ok-answer.ensures.answer in
-    let room : source.most * source.width s ≤ length c.ask.new.page = omega (arith, taken.0) in
-    omega (arith, batch_room source.most (source.width s) c.in-Batch.rows (source.items s) _ c.ask.new.page (source.fits s) taken.1 _ room, ap (λ w. c.in-Batch.rows * w) c.columns-columns.ensures)
+    batch_room source.items source.most (source.width s) c.in-Batch.rows c.columns-columns.result s c.ask.new.self c.args.page.now c.ask.new.page c.in_ok-other.other (source.fits s)
+    c.in_ok-other.ensures.answer c.in-Batch.is c.columns-columns.ensures (omega arith)
 
 pub returns-in-Batch : goal.returns-in-Batch
 returns-in-Batch g c =
     let source = g.S.Source in
     let s = c.args.self.now.inner in
-    let taken = rw c.in-Batch.is at c.in_ok-answer.ensures.answer in
-    let w-is = c.columns-columns.ensures in
+    let asked = c.in_ok-other.ensures.answer in
     record {
-      answer = (taken.0, layer_batch source.most (source.width s) c.in-Batch.rows (source.items s) _ c.ask.new.page (source.fits s) taken.1 g.S.Cell.Cell.is_missing c.args.self.now.column c.keep_rows-count.result _ (rw w-is at c.keep_rows-count.ensures.count) (rw w-is at c.keep_rows-count.ensures.front));
-      width = c.in_ok-answer.ensures.width;
+      answer = (asked.0, layer_batch source.items source.most (source.width s) c.in-Batch.rows c.columns-columns.result s c.ask.new.self c.args.page.now c.ask.new.page c.in_ok-other.other (source.fits s)
+          asked c.in-Batch.is c.columns-columns.ensures g.S.Cell.Cell.is_missing c.args.self.now.column c.keep_rows.result _ c.keep_rows.ensures.count c.keep_rows.ensures.front);
+      width = c.in_ok-other.ensures.width;
     }

@@ -1,36 +1,22 @@
-use Rattle.std.proofs.Common.{◌≡◌, ◌+◌, ◌-◌, ◌*◌, sym, refl, ap, ◌∙◌, mul-le-mul_right, add-mul, arith}
+use Rattle.std.proofs.Common.{◌*◌, ◌/◌, length, take, drop, ap, ◌∙◌, arith}
 use Rattle.sources.proofs.Tables.{served, ended}
 use Rattle.sources.proofs.table.TableSourceSource.ask.Goals as goal
 
-pub returns-then-self-eq0 : goal.returns-then-self-eq0
-returns-then-self-eq0 g c =
+pub returns-then-count-eq0-clause-answer : goal.returns-then-count-eq0-clause-answer
+returns-then-count-eq0-clause-answer g c =
     let s = c.args.self.now in
-    let none = ended s.shape.batch s.rows s.shape.columns s.cells.now (omega arith) c.if-self-eq0.true in
-    record { answer = (omega arith, (none, none)); width = refl }
+    let w = s.shape.columns.count in
+    let rows = ap (λ k. length s.cells.now / k) c.columns-columns.ensures in
+    let none = ended s.shape.batch (length s.cells.now / w) w s.cells.now s.shape.filled (omega (arith, rows, s.shape.filled)) in
+    (omega arith, (none, none))
 
-pub split_at-requires : goal.split_at-requires
-split_at-requires g c =
+pub returns-clause-answer : goal.returns-clause-answer
+returns-clause-answer g c =
     let s = c.args.self.now in
-    omega (arith, mul-le-mul_right {m = c.min-count.result} {n = s.rows} s.shape.columns (omega arith))
-
-pub slice_bounds-copy_from_slice-end : goal.slice_bounds-copy_from_slice-end
-slice_bounds-copy_from_slice-end g c =
-    let s = c.args.self.now in
-    omega (arith, mul-le-mul_right {m = c.min-count.result} {n = 1024} s.shape.columns (omega arith))
-
-pub invariant_of-self : goal.invariant_of-self
-invariant_of-self g c =
-    let s = c.args.self.now in
+    let cells = s.cells.now in
+    let w = s.shape.columns.count in
     let k = c.min-count.result in
-    let w = s.shape.columns in
-    let all : s.rows - k + k ≡ s.rows = omega arith in
-    let split : (s.rows - k) * w + k * w ≡ s.rows * w = sym (add-mul (s.rows - k) k w) ∙ ap (λ j. j * w) all in
-    record { whole = omega arith }
-
-pub returns : goal.returns
-returns g c =
-    let s = c.args.self.now in
-    record {
-      answer = (omega arith, served s.shape.batch s.rows s.shape.columns c.min-count.result s.cells.now _ _ _ (omega arith) (omega arith) (omega arith) (c.copy_from_slice.ensures.after ∙ c.split_at.ensures.front) c.split_at.ensures.back);
-      width = refl;
-    }
+    let w-is = c.columns-columns.ensures in
+    let rows = ap (λ n. length cells / n) w-is in
+    (omega arith, served s.shape.batch w k cells _ _ _ s.shape.filled s.shape.columns.some (omega arith) (omega (arith, rows))
+        (c.copy_from_slice.ensures.after ∙ c.split_at.ensures.front ∙ ap (λ n. take (k * n) cells) w-is) (c.split_at.ensures.back ∙ ap (λ n. drop (k * n) cells) w-is))
