@@ -18,3 +18,7 @@ out_is {C} k w c page out h room =
     let long : 0 + length (take (k * c) page) ≡ length (take k (rows_from w c page)) * c =
     (let a = length-take (k * c) page in let b : min (k * c) (length page) ≡ k * c = omega arith in let e : 0 + length (take (k * c) page) ≡ k * c = omega arith in e) ∙ ap (λ (n : ℕ). n * c) (sym (taken_rows k w c page h)) in
     ap₂ (λ (a : List C) (b : ℕ). a ++ drop b out) (sym cells) long
+
+-- rows of a page that is the same
+pub rows_at : {C : Type 0} (k w : ℕ) (page page' : List C) (rows : List (List C)) → page ≡ page' → rows_from k w page' ≡ rows → rows_from k w page ≡ rows
+rows_at k w page page' rows e f = ap (rows_from k w) e ∙ f

@@ -1,11 +1,11 @@
 -- What every handler shares: the handler of a known state, rows that are delivered, and a step that writes nothing.
-use Rattle.std.proofs.Common.{◌≡◌, ℕ, ◌-◌, ◌*◌, ◌≤◌, Bool, List, ◌++◌, length, take, drop, Ok, sym, refl, ap, ◌∙◌, subst}
+use Rattle.std.proofs.Common.{◌≡◌, ℕ, ◌-◌, ◌*◌, ◌≤◌, Bool, List, ◌++◌, length, take, drop, Ok, sym, refl, ap, ◌∙◌, subst, rules}
 use Rattle.memory.specs.Items.{Item}
 use Rattle.memory.specs.Marks.{bits_of}
 use Rattle.memory.specs.Rows.{cells_of}
 use Rattle.join_types.specs.Types.{row_of}
 use Rattle.join_types.specs.declared.kind.JoinType.{JoinType}
-use Rattle.join_types.specs.declared.kind.JoinType.TheVariants.{Inner, Left, Right, Full, LeftSemi, RightSemi, LeftAnti, RightAnti, LeftMark, RightMark}
+use Rattle.join_types.specs.Laws.{TypesStand}
 use Rattle.nested_loop.specs.Model.{Setup, right_rest_of}
 use Rattle.nested_loop.specs.Machine.{State, Handled, handled, handle, deliver, delivers, on, taken_after}
 use Rattle.nested_loop.specs.declared.answer.NLJState.{NLJState}
@@ -24,16 +24,7 @@ use Rattle.join.proofs.Delivering.{taken_rows}
 
 -- the right rest of a type is the left rest of its mirror
 pub right-rest : (k : JoinType) → (row_of k).right_rest ≡ right_rest_of k
-right-rest Inner = refl
-right-rest Left = refl
-right-rest Right = refl
-right-rest Full = refl
-right-rest LeftSemi = refl
-right-rest RightSemi = refl
-right-rest LeftAnti = refl
-right-rest RightAnti = refl
-right-rest LeftMark = refl
-right-rest RightMark = refl
+right-rest = (let laws : TypesStand = search rules in laws).rests
 
 -- a record whose batch, marks, index and emitter flag stay
 pub unread_same : (s : NLJState) (v n : ProbeView) → n.rows ≡ v.rows → n.marks ≡ v.marks → n.index ≡ v.index → n.emits ≡ v.emits → Unread s v n

@@ -11,7 +11,7 @@ use Rattle.nested_loop.specs.declared.answer.NLJState.{NLJState}
 use Rattle.nested_loop.specs.declared.answer.NLJState.TheVariants as nlj
 use Rattle.nested_loop.specs.declared.answer.Answer.TheVariants.{On}
 use Rattle.opening.specs.declared.plan.Plan.{Plan}
-use Rattle.probing.specs.Met.{met_of, MetRows}
+use Rattle.probing.specs.Met.{Met, met_of, MetRows}
 use Rattle.runs.specs.Calls.{state_of, Unread}
 use Rattle.join.specs.declared.record.Probe.{Probe}
 use Rattle.join.specs.View.{probe_view}
@@ -89,3 +89,10 @@ module _ {C : Type 0} (S : Setup C) (plan : Plan) (who most : ℕ) (p : Probe) (
         unread = subst (λ (s : NLJState). Unread s (probe_view p) (probe_view (met p words' (i + t) k))) (sym is) refl;
         largest = largest_is most p nlj.ProbeRight is refl;
       }
+
+-- the same of counts, rows and lent memory that are the same
+pub met_seen : {C : Type 0} (S : Setup C) (L L' r r' from k : ℕ) (ls ls' rs rs' : List (List C)) (m : Met C) (lefts lefts' rights : List ℕ) (page page' : List C) →
+    L' ≡ L → r' ≡ r → ls' ≡ ls → rs' ≡ rs → lefts ≡ lefts' → page ≡ page' →
+    MetRows S L' r' from ls' rs' m (met_of lefts' rights k page') → MetRows S L r from ls rs m (met_of lefts rights k page)
+met_seen S L L' r r' from k ls ls' rs rs' m lefts lefts' rights page page' a b c d e f h =
+    coe 0 1 (i. MetRows S (a i) (b i) from (c i) (d i) m (met_of (sym e i) rights k (sym f i))) h

@@ -1,23 +1,26 @@
-// Delivering waiting rows, and the output list as a slice.
-ghost use Rattle.std.specs.Prelude.{◌≡◌, ◌-◌, ◌*◌, ◌≤◌, ◌++◌, length, take, drop};
+// What a join delivers: its output rows, and the waiting rows.
+ghost use Rattle.std.specs.Prelude.{◌≡◌, ◌-◌, ◌*◌, ◌≤◌, min, ◌++◌, length, take, drop};
 ghost use Rattle.memory.specs.Rows.{cells_of};
 ghost use Rattle.nested_loop.specs.declared.answer.Answer.TheVariants.{Batch};
 ghost use Rattle.opening.specs.Lists.{columns_of};
 ghost use Rattle.join.specs.Handled.{waiting_rows, with_waiting};
 
 use crate::record::Probe;
-use join_types::ColumnIndex;
-use memory::deliver;
+use memory::WaitingRows;
 use nested_loop::Answer;
-use opening::{ColumnList, Plan};
+use opening::Plan;
+use probing::JoinOutput;
 
-// The output columns.
-pub(crate) fn output_columns(list: &ColumnList) -> &[ColumnIndex]
-    requires { list.now.count ≤ 32 }
-    ensures list { result.now ≡ columns_of list.now }
-    ensures long { length result.now ≡ list.now.count }
+// What output rows are made by.
+pub(crate) fn output_of(plan: &Plan) -> JoinOutput
+    ensures join_type { result.join_type ≡ plan.now.list.join_type }
+    ensures columns { result.columns.now ≡ columns_of plan.now.list }
+    ensures long { length result.columns.now ≡ min plan.now.list.count 32 }
 {
-    &list.columns[0..list.count]
+    JoinOutput {
+        join_type: plan.list.join_type,
+        columns: plan.list.as_slice(),
+    }
 }
 
 // Moves the first of the waiting rows to the front of the out page, and the others to the front of their own.
@@ -36,7 +39,12 @@ pub(crate) fn deliver_rows<C: Copy>(
     ensures out { out.new ≡ cells_of (take rows (waiting_rows plan.now probe.old waiting.old)) ++ drop (length (take rows (waiting_rows plan.now probe.old waiting.old)) * plan.now.list.count) out.old }
     ensures left { waiting_rows plan.now probe.new waiting.new ≡ drop rows (waiting_rows plan.now probe.old waiting.old) }
 {
-    deliver(waiting, probe.waiting, rows, plan.list.count, out);
-    probe.waiting -= rows;
+    let mut waiting = WaitingRows {
+        cells: waiting,
+        rows: probe.waiting,
+    };
+    // There is room, by what is required.
+    let _ = waiting.deliver(rows, plan.list.count, out);
+    probe.waiting = waiting.rows;
     Answer::Batch(rows)
 }

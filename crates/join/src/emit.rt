@@ -14,13 +14,12 @@ ghost use Rattle.join.specs.View.{setup_in};
 ghost use Rattle.join.specs.Handled.{around, waiting_rows, handled_by, Handles};
 ghost use Rattle.join.specs.Sound.{Sound, room_of};
 
-use crate::deliver::{deliver_rows, output_columns};
+use crate::deliver::{deliver_rows, output_of};
 use crate::record::Probe;
 use cells::Cell;
-use join_types::need_produce_result_in_final;
+use memory::{Rows, WaitingRows};
 use nested_loop::{Answer, NLJState};
 use opening::Plan;
-use probing::{JoinOutput, LentRows, process_left_unmatched_range, process_right_unmatched};
 
 // Delivers a full batch if one waits; else appends the right rest of the batch.
 pub(crate) fn handle_emit_right_unmatched<C: Cell>(
@@ -41,17 +40,13 @@ pub(crate) fn handle_emit_right_unmatched<C: Cell>(
     if probe.waiting >= plan.batch_size {
         return deliver_rows(plan, probe, plan.batch_size, waiting, out);
     }
-    let output = JoinOutput {
-        join_type: plan.list.join_type,
-        columns: output_columns(&plan.list),
+    let rights = Rows::first(right, plan.list.right_columns, probe.rows);
+    let mut waiting = WaitingRows {
+        cells: waiting,
+        rows: probe.waiting,
     };
-    let rights = LentRows {
-        cells: right,
-        columns: plan.list.right_columns,
-        rows: probe.rows,
-    };
-    let count = probe.waiting;
-    probe.waiting = process_right_unmatched(&output, &rights, &probe.right_marks, waiting, count);
+    output_of(plan).process_right_unmatched(&rights, &probe.right_marks, &mut waiting);
+    probe.waiting = waiting.rows;
     probe.state = NLJState::FetchingRight;
     Answer::On
 }

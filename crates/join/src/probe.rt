@@ -11,12 +11,13 @@ ghost use Rattle.join.specs.View.{setup_in};
 ghost use Rattle.join.specs.Handled.{around, waiting_rows, rows_joined, handled_by, Handles};
 ghost use Rattle.join.specs.Sound.{Sound, room_of};
 
-use crate::deliver::{deliver_rows, output_columns};
+use crate::deliver::{deliver_rows, output_of};
 use crate::record::Probe;
 use join_types::need_produce_right_in_final;
+use memory::{Rows, WaitingRows};
 use nested_loop::{Answer, NLJState};
 use opening::Plan;
-use probing::{JoinOutput, LentRows, process_left_range_join};
+use probing::{PairMarks, Pairing};
 use verdicts::Verdict;
 
 // How many left rows the next step joins with the batch.
@@ -33,10 +34,10 @@ pub(crate) fn rows_joined(plan: &Plan, probe: &Probe) -> usize
 }
 
 // Joins the next left rows with the rows of the batch.
-fn process_probe_batch<V: Verdict>(
-    plan: &Plan,
+fn process_probe_batch<'a, V: Verdict>(
+    plan: &'a Plan,
     probe: &mut Probe,
-    verdict: &V,
+    verdict: &'a V,
     left: &[V::Cell],
     right: &[V::Cell],
     left_marks: &mut [u64],
@@ -55,33 +56,22 @@ fn process_probe_batch<V: Verdict>(
 {
     let from = probe.index;
     let to = from + rows_joined(plan, probe);
-    let output = JoinOutput {
-        join_type: plan.list.join_type,
-        columns: output_columns(&plan.list),
-    };
-    let lefts = LentRows {
-        cells: left,
-        columns: plan.list.left_columns,
-        rows: plan.left_rows,
-    };
-    let rights = LentRows {
-        cells: right,
-        columns: plan.list.right_columns,
-        rows: probe.rows,
-    };
-    let count = probe.waiting;
-    probe.waiting = process_left_range_join(
+    let pairing = Pairing {
         verdict,
-        &output,
-        &lefts,
-        from,
-        to,
-        &rights,
-        left_marks,
-        &mut probe.right_marks,
-        waiting,
-        count,
-    );
+        output: output_of(plan),
+    };
+    let lefts = Rows::first(left, plan.list.left_columns, plan.left_rows);
+    let rights = Rows::first(right, plan.list.right_columns, probe.rows);
+    let mut marks = PairMarks {
+        left: left_marks,
+        right: &mut probe.right_marks,
+    };
+    let mut waiting = WaitingRows {
+        cells: waiting,
+        rows: probe.waiting,
+    };
+    pairing.process_left_range_join(&lefts, from..to, &rights, &mut marks, &mut waiting);
+    probe.waiting = waiting.rows;
     probe.index = to;
     Answer::On
 }

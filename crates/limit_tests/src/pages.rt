@@ -1,5 +1,5 @@
 // Tests of marks at the ends of their words, and of delivering waiting rows.
-use memory::{clear_marks, deliver, is_marked, mark};
+use memory::{WaitingRows, clear_marks, is_marked, mark};
 use std::alloc::{AllocError, Global};
 use std::test::Fail;
 
@@ -47,13 +47,11 @@ fn delivered(rt: HostRuntime) -> Result<(), Fail> {
     for &(count, first, width, cells, room, done) in DELIVERS {
         let mut waiting = numbers(rt.alloc(), 0, cells)?;
         let mut out = numbers(rt.alloc(), 100, room)?;
-        let right = deliver(
-            waiting.as_mut_slice(),
-            count,
-            first,
-            width,
-            out.as_mut_slice(),
-        ) == done;
+        let mut rows = WaitingRows {
+            cells: waiting.as_mut_slice(),
+            rows: count,
+        };
+        let right = rows.deliver(first, width, out.as_mut_slice()).is_ok() == done;
         assert!(rt; right, "{count} {first} {width}");
         let cut = if done { first.saturating_mul(width) } else { 0 };
         for i in 0..room {

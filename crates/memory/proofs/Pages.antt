@@ -1,19 +1,16 @@
 -- Rows on a page: read one by one, written behind others, and moved to a front.
-use Rattle.std.proofs.Common.{◌≡◌, ℕ, zero, suc, ◌+◌, ◌-◌, ◌*◌, ◌^◌, ◌<◌, ◌≤◌, min, Bool, true, cond, ◌&&◌, leb, List, [], ◌∷◌, ◌++◌, map, length, get_or, take, drop, set, sym, refl, ap, ◌∙◌, ap₂, ⊎_elim, mul-le-mul_right, suc-mul, add-mul, mul-zero, zero-mul, arith, length-append, length-drop, length-take}
+use Rattle.std.proofs.Common.{◌≡◌, ℕ, zero, suc, ◌+◌, ◌-◌, ◌*◌, ◌^◌, ◌<◌, ◌≤◌, min, true, leb, List, [], ◌∷◌, ◌++◌, map, length, get_or, take, drop, set, sym, refl, ap, ◌∙◌, ap₂, ⊎_elim, mul-le-mul_right, suc-mul, add-mul, mul-zero, zero-mul, arith, length-append, length-drop, length-take}
 use borrow.Rule.Slice.PartMut.{put_mid}
 use lib.Seq.{paste}
 use Rattle.std.proofs.lemmas.List.Edits.{paste_more, paste_all}
 use Rattle.std.proofs.lemmas.List.{drop-take, drop-drop, take_at, drop_at, take-append-le, take-take, length-take-le, get_or-map, length-map}
 use Rattle.std.proofs.lemmas.Slice.{between_is, drop-put_mid}
-use Rattle.std.proofs.lemmas.Bool.{cases_lt, cases_Bool, cond-true, cond-false, leb-true, leb-false, le-leb, lt-leb, and_from}
+use Rattle.std.proofs.lemmas.Bool.{cases_lt, leb-true}
 use Rattle.memory.specs.Rows.{row_at, rows_from, put_row}
 
 -- what a test of room tells
 pub fits_from : (a b : ℕ) → true ≡ leb a b → a ≤ b
 fits_from a b e = leb-true a b (sym e)
-
-pub all_fit : (a b c d e f : ℕ) → a ≤ b → true ≡ leb c d → true ≡ leb e f → true ≡ (leb a b && (leb c d && leb e f))
-all_fit a b c d e f h x y = sym (and_from (leb a b) (leb c d && leb e f) (le-leb a b h) (and_from (leb c d) (leb e f) (sym x) (sym y)))
 
 -- rows are read of the front alone
 pub rows_front : {C : Type 0} (n c : ℕ) (xs ys : List C) → take (n * c) xs ≡ take (n * c) ys → rows_from n c xs ≡ rows_from n c ys
@@ -148,30 +145,9 @@ place_whole n w len h k =
     (λ (l : w ≤ 0). let z : w ≡ 0 = omega arith in let p : n * w ≡ 0 = ap (λ v. n * v) z ∙ mul-zero n in omega arith)
     (cases_lt 0 w)
 
-pub room_whole : (n w len : ℕ) → len < 2 ^ 64 → leb (min (n * w) (2 ^ 64 - 1) + w) len ≡ leb (n * w + w) len
-room_whole n w len h =
-    let at : ℕ = min (n * w) (2 ^ 64 - 1) in
-    ⊎_elim
-    (λ e. ap (λ p. leb (p + w) len) (place_whole n w len h (leb-true (at + w) len e)))
-    (λ e. e ∙ sym (lt-leb (n * w + w) len (omega (arith, leb-false (at + w) len e))))
-    (cases_Bool (leb (at + w) len))
-
--- a row written behind n rows, if it fits there
-module _ {C : Type 0} (n w : ℕ) (xs row : List C) (few : length xs < 2 ^ 64) (wide : length row ≡ w) (at : ℕ) (at-is : at ≡ min (n * w) (2 ^ 64 - 1)) (r : Bool) (ys : List C) (room : r ≡ leb (at + w) (length xs)) (put : ys ≡ cond r (put_row xs at row) xs) where
-  pub behind-room : r ≡ leb (n * w + w) (length xs)
-  behind-room = room ∙ ap (λ p. leb (p + w) (length xs)) at-is ∙ room_whole n w (length xs) few
-
-  pub behind_cells : ys ≡ cond r (put_row xs (n * w) row) xs
-  behind_cells =
-      ⊎_elim
-      (λ t.
-      let fit : at + w ≤ length xs = leb-true (at + w) (length xs) (sym room ∙ t) in
-      let whole : at ≡ n * w = at-is ∙ place_whole n w (length xs) few (rw at-is at fit) in
-      put ∙ ap (λ p. cond r (put_row xs p row) xs) whole)
-      (λ f. put ∙ cond-false r (put_row xs at row) xs f ∙ sym (cond-false r (put_row xs (n * w) row) xs f))
-      (cases_Bool r)
-
-  pub behind_rows : r ≡ true → rows_from (n + 1) w ys ≡ rows_from n w xs ++ row ∷ []
-  behind_rows t =
-      let fit : n * w + w ≤ length xs = leb-true (n * w + w) (length xs) (sym behind-room ∙ t) in
-      ap (rows_from (n + 1) w) (behind_cells ∙ cond-true r (put_row xs (n * w) row) xs t) ∙ rows_put n w xs row wide (omega arith)
+-- a row written behind n rows, where it fits
+pub row_behind : {C : Type 0} (n w at : ℕ) (xs row ys : List C) → length xs < 2 ^ 64 → length row ≡ w → at ≡ min (n * w) (2 ^ 64 - 1) → true ≡ leb (at + w) (length xs) → ys ≡ put_row xs at row → rows_from (n + 1) w ys ≡ rows_from n w xs ++ row ∷ []
+row_behind n w at xs row ys few wide stops room put =
+    let fit : at + w ≤ length xs = leb-true (at + w) (length xs) (sym room) in
+    let whole : at ≡ n * w = stops ∙ place_whole n w (length xs) few (rw stops at fit) in
+    ap (rows_from (n + 1) w) (put ∙ ap (λ p. put_row xs p row) whole) ∙ rows_put n w xs row wide (omega arith)

@@ -7,10 +7,12 @@ mod output;
 mod page;
 mod row;
 mod rows;
+mod waiting;
 
 pub use columns::ColumnCount;
 pub use marks::{clear_marks, is_marked, mark};
-pub use output::{append_output, put_output};
-pub use page::{deliver, has_room, put_row};
+pub use output::put_output;
+pub use page::{NoRoom, has_room, put_row};
 pub use row::{cell_at, row_at};
 pub use rows::{Rows, RowsRefusal};
+pub use waiting::WaitingRows;

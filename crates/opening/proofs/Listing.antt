@@ -1,8 +1,6 @@
 -- Output lists: what no refusal tells, the list that is made, and its sides exchanged.
-use Rattle.std.proofs.Common.{◌≡◌, ℕ, ◌≤◌, Bool, true, false, cond, not, ◌&&◌, leb, List, [], ◌∷◌, map, length, Some, None, sym, refl, ap, ◌∙◌, ap₂, arith, rules}
-use Rattle.std.specs.List.{AllByRecursion}
+use Rattle.std.proofs.Common.{◌≡◌, ℕ, Bool, cond, not, ◌&&◌, leb, List, [], ◌∷◌, map, length, Some, None, refl, ap, ◌∙◌, ap₂, rules}
 use Rattle.std.proofs.lemmas.List.{take_at, take-map, length-map}
-use Rattle.std.proofs.lemmas.Bool.{and_from, not-false, leb-true}
 use Rattle.join_types.specs.declared.column.ColumnIndex.{ColumnIndex}
 use Rattle.join_types.specs.declared.column.JoinSide.{JoinSide}
 use Rattle.join_types.specs.declared.column.JoinSide.TheVariants as side
@@ -10,39 +8,13 @@ use Rattle.join_types.specs.declared.kind.JoinType.{JoinType}
 use Rattle.join_types.specs.Laws.{TypesStand}
 use Rattle.join_types.specs.Types.{allows, mirror, other_side, swapped}
 use Rattle.opening.specs.declared.list.ColumnList.{ColumnList}
-use Rattle.opening.specs.declared.refusal.OpenRefusal.{OpenRefusal}
 use Rattle.opening.specs.declared.refusal.OpenRefusal.TheVariants.{TooManyColumns, NoSuchColumn, SideNotAllowed}
-use Rattle.opening.specs.Refusals.{first_of}
-use Rattle.opening.specs.Lists.{columns_of, side_has, is_there, is_mark, are_few, are_there, are_allowed, list_conditions, list_refusal, is_legal, list_of, exchanged_list}
+use Rattle.opening.specs.Lists.{columns_of, side_has, is_there, is_mark, are_few, are_there, are_allowed, list_refusal, is_legal, list_of, exchanged_list}
 use Rattle.opening.proofs.Passing.{pass_map, count_map}
-
--- none is given only where no condition fits
-pub none_fits : (cs : List (Bool × OpenRefusal)) → first_of cs ≡ None → AllByRecursion (λ c. c.0 ≡ false) cs
-none_fits [] e = tt
-none_fits ((true, x) ∷ cs) e = absurd (let z : ◌≡◌ {A = ℕ} 0 1 = cc in omega arith)
-none_fits ((false, x) ∷ cs) e = (refl, none_fits cs e)
 
 -- the columns of the list made are those given
 pub columns_list_of : (k : JoinType) (left right : ℕ) (cs : List ColumnIndex) → columns_of (list_of k left right cs) ≡ cs
 columns_list_of k left right cs = take_at cs _ (length cs) refl
-
--- a list made of columns that are not refused
-module _ (k : JoinType) (left right : ℕ) (cs : List ColumnIndex) (e : None ≡ list_refusal k left right cs) (l : ColumnList) (made : l ≡ list_of k left right cs) where
-  -- is legal
-  pub legal_made : is_legal l ≡ true
-  legal_made =
-      let h = none_fits (list_conditions k left right cs) (sym e) in
-      ap is_legal made
-      ∙ ap (λ xs. are_few xs && (are_there left right xs && are_allowed k xs)) (columns_list_of k left right cs)
-      ∙ and_from (are_few cs) _ (not-false _ h.0) (and_from (are_there left right cs) _ (not-false _ h.1.0) (not-false _ h.1.1.0))
-
-  -- and has few columns
-  pub few_made : l.count ≤ 32
-  few_made = rw made (leb-true (length cs) 32 (not-false _ (none_fits (list_conditions k left right cs) (sym e)).0))
-
-  -- and its columns are those given
-  pub columns_made : columns_of l ≡ cs
-  columns_made = ap columns_of made ∙ columns_list_of k left right cs
 
 -- the laws of the join types
 types_stand : TypesStand

@@ -3,15 +3,11 @@ ghost use Rattle.opening.specs.Laws.{OutputListsStand};
 ghost use Rattle.opening.specs.Worked.{WorkedOrders};
 
 // What holds of all output lists: exchanging sides keeps a list legal, and twice it gives the list back.
-pub fn output_lists_stand() -> u8
+pub fn output_lists_stand()
     ensures { OutputListsStand }
-{
-    0
-}
+{}
 
 // Orders at their limits.
-pub fn worked_orders() -> u8
+pub fn worked_orders()
     ensures { WorkedOrders }
-{
-    0
-}
+{}

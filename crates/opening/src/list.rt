@@ -1,13 +1,15 @@
 // An output list as plain data: the join type, the column counts of both sides, and up to 32 output columns.
-ghost use Rattle.std.specs.Prelude.{◌≡◌, ◌≤◌, length};
-ghost use Rattle.opening.specs.Lists.{list_of, exchanged_list};
+ghost use Rattle.std.specs.Prelude.{◌≡◌, ◌≤◌, min, length};
+ghost use Rattle.opening.specs.Lists.{columns_of, list_of, exchanged_list};
 
+use crate::request::ColumnRequest;
 use join_types::{ColumnIndex, JoinSide, JoinType, exchange_sides};
 use memory::put_row;
 
 // As many output columns as a list may have.
 pub(crate) const MOST_COLUMNS: usize = 32;
 
+// The columns stand in the first `count` of 32 places: a join keeps its list in its own record, and no heap.
 #[derive(Clone, Copy)]
 pub struct ColumnList {
     pub join_type: JoinType,
@@ -18,28 +20,32 @@ pub struct ColumnList {
 }
 
 impl ColumnList {
-    // The list of these columns.
-    pub(crate) fn new(
-        join_type: JoinType,
-        left_columns: usize,
-        right_columns: usize,
-        columns: &[ColumnIndex],
-    ) -> ColumnList
-        requires { length columns.now ≤ 32 }
-        ensures { result ≡ list_of join_type left_columns right_columns columns.now }
+    // The list that is asked for.
+    pub(crate) fn new(request: &ColumnRequest) -> ColumnList
+        requires { length request.now.columns.now ≤ 32 }
+        ensures { result ≡ list_of request.now.join_type request.now.left_columns request.now.right_columns request.now.columns.now }
     {
-        let mut places = [ColumnIndex {
+        let mut columns = [ColumnIndex {
             index: 0,
             side: JoinSide::Left,
         }; 32];
-        put_row(&mut places, 0, columns);
+        // There is room for 32.
+        let _ = put_row(&mut columns, 0, request.columns);
         ColumnList {
-            join_type,
-            left_columns,
-            right_columns,
-            count: columns.len(),
-            columns: places,
+            join_type: request.join_type,
+            left_columns: request.left_columns,
+            right_columns: request.right_columns,
+            count: request.columns.len(),
+            columns,
         }
+    }
+
+    // The columns in their order.
+    pub fn as_slice(&self) -> &[ColumnIndex]
+        ensures columns { result.now ≡ columns_of self.now }
+        ensures long { length result.now ≡ min self.now.count 32 }
+    {
+        &self.columns[..self.count.min(MOST_COLUMNS)]
     }
 
     // The list with its sides exchanged.

@@ -4,7 +4,7 @@ ghost use Rattle.std.specs.Result.{result_err};
 ghost use Rattle.join_types.specs.Types.{swapped};
 ghost use Rattle.opening.specs.Lists.{columns_of, list_refusal, is_legal, list_of, exchanged_list};
 
-use crate::checks::list_refusal;
+use crate::request::ColumnRequest;
 use crate::{ColumnList, OpenRefusal};
 use join_types::{ColumnIndex, JoinType};
 
@@ -26,19 +26,23 @@ impl OutputList {
         ensures refused { result_err result ≡ list_refusal join_type left_columns right_columns columns.now }
         ensures checked { IfOk result (λ o. (o.list ≡ list_of join_type left_columns right_columns columns.now) × (columns_of o.list ≡ columns.now)) }
     {
-        match list_refusal(join_type, left_columns, right_columns, columns) {
-            Some(refusal) => Err(refusal),
-            None => Ok(OutputList {
-                list: ColumnList::new(join_type, left_columns, right_columns, columns),
-            }),
-        }
+        let request = ColumnRequest {
+            join_type,
+            left_columns,
+            right_columns,
+            columns,
+        };
+        request.check()?;
+        Ok(OutputList {
+            list: ColumnList::new(&request),
+        })
     }
 
     // The columns in their order.
     pub fn columns(&self) -> &[ColumnIndex]
         ensures { result.now ≡ columns_of self.now.list }
     {
-        &self.list.columns[0..self.list.count]
+        self.list.as_slice()
     }
 
     // The list as plain data.

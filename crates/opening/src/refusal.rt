@@ -2,14 +2,15 @@
 ghost use Rattle.std.specs.Prelude.{◌≡◌};
 ghost use Rattle.opening.specs.Refusals.{number_of};
 
-#[derive(Clone, Copy, PartialEq)]
+// Each with the number by which it goes.
+#[derive(Debug, Clone, Copy, PartialEq, Eq)]
 pub enum OpenRefusal {
-    Probes,
-    BatchSize,
-    RightColumns,
-    TooManyColumns,
-    NoSuchColumn,
-    SideNotAllowed,
+    Probes = 4,
+    BatchSize = 5,
+    RightColumns = 6,
+    TooManyColumns = 7,
+    NoSuchColumn = 8,
+    SideNotAllowed = 9,
 }
 
 impl OpenRefusal {
@@ -17,13 +18,6 @@ impl OpenRefusal {
     pub fn number(self) -> u8
         ensures { result ≡ number_of self }
     {
-        match self {
-            OpenRefusal::Probes => 4,
-            OpenRefusal::BatchSize => 5,
-            OpenRefusal::RightColumns => 6,
-            OpenRefusal::TooManyColumns => 7,
-            OpenRefusal::NoSuchColumn => 8,
-            OpenRefusal::SideNotAllowed => 9,
-        }
+        self as u8
     }
 }

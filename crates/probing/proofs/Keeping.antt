@@ -4,30 +4,27 @@ use Rattle.std.proofs.lemmas.List.FromFn.{length-map-range_with_len, get_or-map-
 use Rattle.std.proofs.lemmas.List.{length-map, length-take, take_all}
 use Rattle.memory.specs.Marks.{bit, bits_of}
 use Rattle.memory.specs.Output.{output_cell}
-use Rattle.memory.specs.Rows.{row_at}
-use Rattle.join_types.specs.declared.kind.JoinType.{JoinType}
-use Rattle.join_types.specs.declared.kind.JoinType.TheVariants.{Inner, Left, Right, Full, LeftSemi, RightSemi, LeftAnti, RightAnti, LeftMark, RightMark}
-use Rattle.join_types.specs.Types.{row_of}
+use Rattle.memory.specs.Rows.{row_at, rows_in}
 use Rattle.nested_loop.specs.Model.{Setup, Rest, kept, left_rest_of, right_rest_of}
 use Rattle.nested_loop.specs.Loop.{rest, left_row, right_row, mark_cell}
-use Rattle.probing.specs.declared.lent.LentRows.{LentRows}
-use Rattle.probing.specs.Lent.{rows_of, stretch, Waiting, waiting_rows, appended, HasRoom}
+use Rattle.memory.specs.declared.rows.Rows.{Rows}
+use Rattle.probing.specs.Lent.{stretch, Waiting, waiting_rows, appended, HasRoom}
 use Rattle.probing.specs.Met.{width}
 use Rattle.probing.specs.Rests.{rest_appended}
 use Rattle.probing.proofs.Appending.{room_less, appended_rows, appended-room, appended_few}
-use Rattle.probing.proofs.Turns.{stretch-more, length-rows_of, rows_of_at}
+use Rattle.probing.proofs.Turns.{stretch-more, length-rows_in, rows_in_at}
 
 -- a turn of the loop: what is left then gives the same as before
-pub rest_turn : {C : Type 0} (wide : ℕ) (k : Rest) (f : List C → Bool → List C) (t : LentRows C) (ws : List ℕ) (i to : ℕ) (x : List C) (b : Bool) (w w' : Waiting C) → i < min to t.rows → x ≡ row_at t.columns t.cells.now i → b ≡ bit ws i → w' ≡ cond (kept k b) (appended wide (f x b) w) w → rest_appended wide k f (stretch (i + 1) to (rows_of t)) (stretch (i + 1) to (bits_of t.rows ws)) w' ≡ rest_appended wide k f (stretch i to (rows_of t)) (stretch i to (bits_of t.rows ws)) w
+pub rest_turn : {C : Type 0} (wide : ℕ) (k : Rest) (f : List C → Bool → List C) (t : Rows C) (ws : List ℕ) (i to : ℕ) (x : List C) (b : Bool) (w w' : Waiting C) → i < min to t.count → x ≡ row_at t.columns t.cells.now i → b ≡ bit ws i → w' ≡ cond (kept k b) (appended wide (f x b) w) w → rest_appended wide k f (stretch (i + 1) to (rows_in t)) (stretch (i + 1) to (bits_of t.count ws)) w' ≡ rest_appended wide k f (stretch i to (rows_in t)) (stretch i to (bits_of t.count ws)) w
 rest_turn {C} wide k f t ws i to x b w w' h ex eb e =
-    let bs : List Bool = bits_of t.rows ws in
-    let lt : i < length (rows_of t) = omega (arith, length-rows_of t) in
-    let lb : i < length bs = omega (arith, length-map-range_with_len (bit ws) 0 t.rows) in
-    let row : get_or (rows_of t) i [] ≡ x = rows_of_at t i (omega arith) ∙ sym ex in
-    let mark : get_or bs i false ≡ b = get_or-map-range_with_len (bit ws) 0 t.rows i i false (omega arith) (omega arith) ∙ sym eb in
-    let xs : List (List C) = stretch (i + 1) to (rows_of t) in
+    let bs : List Bool = bits_of t.count ws in
+    let lt : i < length (rows_in t) = omega (arith, length-rows_in t) in
+    let lb : i < length bs = omega (arith, length-map-range_with_len (bit ws) 0 t.count) in
+    let row : get_or (rows_in t) i [] ≡ x = rows_in_at t i (omega arith) ∙ sym ex in
+    let mark : get_or bs i false ≡ b = get_or-map-range_with_len (bit ws) 0 t.count i i false (omega arith) (omega arith) ∙ sym eb in
+    let xs : List (List C) = stretch (i + 1) to (rows_in t) in
     let ys : List Bool = stretch (i + 1) to bs in
-    let one : stretch i to (rows_of t) ≡ x ∷ xs = stretch-more (rows_of t) i to [] (omega arith) lt ∙ ap (λ (z : List C). z ∷ xs) row in
+    let one : stretch i to (rows_in t) ≡ x ∷ xs = stretch-more (rows_in t) i to [] (omega arith) lt ∙ ap (λ (z : List C). z ∷ xs) row in
     let two : stretch i to bs ≡ b ∷ ys = stretch-more bs i to false (omega arith) lb ∙ ap (λ (z : Bool). z ∷ ys) mark in
     ap (rest_appended wide k f xs ys) e ∙ sym (ap₂ (λ (u : List (List C)) (v : List Bool). rest_appended wide k f u v w) one two)
 
@@ -90,16 +87,3 @@ module _ {C : Type 0} (S : Setup C) where
 
   pub right_wide : (x : List C) (b : Bool) → length (right_row S x b) ≡ width S
   right_wide x b = length-map S.columns (output_cell S.missing [] x (mark_cell S (right_rest_of S.join_type) b))
-
--- the table's right rest is the mirror's left rest
-pub right-rest : (k : JoinType) → (row_of k).right_rest ≡ right_rest_of k
-right-rest Inner = refl
-right-rest Left = refl
-right-rest Right = refl
-right-rest Full = refl
-right-rest LeftSemi = refl
-right-rest RightSemi = refl
-right-rest LeftAnti = refl
-right-rest RightAnti = refl
-right-rest LeftMark = refl
-right-rest RightMark = refl

@@ -1,3 +1,4 @@
+pub mod Parts
 pub mod Turns
 pub mod Appending
 pub mod Meets

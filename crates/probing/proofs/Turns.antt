@@ -2,12 +2,13 @@
 use Rattle.std.proofs.Common.{◌≡◌, ℕ, suc, ◌+◌, ◌-◌, ◌<◌, ◌≤◌, min, List, [], ◌∷◌, length, get_or, take, drop, sym, ap, ◌∙◌, ap₂, ⊎_elim, arith}
 use Rattle.std.proofs.lemmas.List.{at_drop_more, drop_more, drop_all, take_all}
 use Rattle.std.proofs.lemmas.Bool.{cases_lt}
-use Rattle.memory.specs.Rows.{row_at}
+use Rattle.memory.specs.Rows.{row_at, rows_in}
 use Rattle.memory.proofs.Cuts.{get_or-rows_from, length-rows_from}
 use Rattle.nested_loop.specs.Model.{Setup}
-use Rattle.probing.specs.declared.lent.LentRows.{LentRows}
-use Rattle.probing.specs.Lent.{rows_of, stretch}
-use Rattle.probing.specs.Met.{Met, met_pair, met_row, met_range}
+use Rattle.memory.specs.declared.rows.Rows.{Rows}
+use Rattle.probing.specs.Lent.{stretch}
+use Rattle.probing.specs.declared.pairs.PairMarks.{PairMarks}
+use Rattle.probing.specs.Met.{Met, met_pair, met_row, met_range, SameWords}
 
 -- a stretch that has a first element, and one that has none
 pub stretch-more : {X : Type 0} (xs : List X) (i to : ℕ) (d : X) → i < to → i < length xs → stretch i to xs ≡ get_or xs i d ∷ stretch (i + 1) to xs
@@ -22,25 +23,29 @@ stretch-none {X} xs i to h =
     (λ (l : to ≤ i). let z : to - i ≡ 0 = omega arith in ap (λ (m : ℕ). take m (drop i xs)) z)
     (cases_lt i to)
 
-module _ {C : Type 0} (t : LentRows C) where
-  pub length-rows_of : length (rows_of t) ≡ t.rows
-  length-rows_of = length-rows_from t.rows t.columns t.cells.now
+module _ {C : Type 0} (t : Rows C) where
+  pub length-rows_in : length (rows_in t) ≡ t.count
+  length-rows_in = length-rows_from t.count t.columns t.cells.now
 
-  pub rows_of_at : (i : ℕ) → i < t.rows → get_or (rows_of t) i [] ≡ row_at t.columns t.cells.now i
-  rows_of_at i h = get_or-rows_from t.rows t.columns t.cells.now i h
+  pub rows_in_at : (i : ℕ) → i < t.count → get_or (rows_in t) i [] ≡ row_at t.columns t.cells.now i
+  rows_in_at i h = get_or-rows_from t.count t.columns t.cells.now i h
 
   -- one of the right rows is met
-  pub row_turn : (S : Setup C) (i : ℕ) (l : List C) (j : ℕ) (r : List C) (m m' : Met C) → j < t.rows → r ≡ row_at t.columns t.cells.now j → m' ≡ met_pair S i j l r m → met_row S i l (j + 1) (drop (j + 1) (rows_of t)) m' ≡ met_row S i l j (drop j (rows_of t)) m
+  pub row_turn : (S : Setup C) (i : ℕ) (l : List C) (j : ℕ) (r : List C) (m m' : Met C) → j < t.count → r ≡ row_at t.columns t.cells.now j → m' ≡ met_pair S i j l r m → met_row S i l (j + 1) (drop (j + 1) (rows_in t)) m' ≡ met_row S i l j (drop j (rows_in t)) m
   row_turn S i l j r m m' h e f =
-      let lt : j < length (rows_of t) = omega (arith, length-rows_of) in
-      let here : r ≡ get_or (rows_of t) j [] = e ∙ sym (rows_of_at j h) in
-      ap (met_row S i l (j + 1) (drop (j + 1) (rows_of t))) (f ∙ ap (λ (x : List C). met_pair S i j l x m) here)
-      ∙ sym (at_drop_more (λ (x : List (List C)). met_row S i l j x m) (rows_of t) j [] lt)
+      let lt : j < length (rows_in t) = omega (arith, length-rows_in) in
+      let here : r ≡ get_or (rows_in t) j [] = e ∙ sym (rows_in_at j h) in
+      ap (met_row S i l (j + 1) (drop (j + 1) (rows_in t))) (f ∙ ap (λ (x : List C). met_pair S i j l x m) here)
+      ∙ sym (at_drop_more (λ (x : List (List C)). met_row S i l j x m) (rows_in t) j [] lt)
 
   -- one of the left rows meets the batch
-  pub range_turn : (S : Setup C) (i to : ℕ) (l : List C) (b : List (List C)) (m m' : Met C) → i < min to t.rows → l ≡ row_at t.columns t.cells.now i → m' ≡ met_row S i l 0 b m → met_range S (i + 1) (stretch (i + 1) to (rows_of t)) b m' ≡ met_range S i (stretch i to (rows_of t)) b m
+  pub range_turn : (S : Setup C) (i to : ℕ) (l : List C) (b : List (List C)) (m m' : Met C) → i < min to t.count → l ≡ row_at t.columns t.cells.now i → m' ≡ met_row S i l 0 b m → met_range S (i + 1) (stretch (i + 1) to (rows_in t)) b m' ≡ met_range S i (stretch i to (rows_in t)) b m
   range_turn S i to l b m m' h e f =
-      let lt : i < length (rows_of t) = omega (arith, length-rows_of) in
-      let here : l ≡ get_or (rows_of t) i [] = e ∙ sym (rows_of_at i (omega arith)) in
-      ap (met_range S (i + 1) (stretch (i + 1) to (rows_of t)) b) (f ∙ ap (λ (x : List C). met_row S i x 0 b m) here)
-      ∙ sym (ap (λ (x : List (List C)). met_range S i x b m) (stretch-more (rows_of t) i to [] (omega arith) lt))
+      let lt : i < length (rows_in t) = omega (arith, length-rows_in) in
+      let here : l ≡ get_or (rows_in t) i [] = e ∙ sym (rows_in_at i (omega arith)) in
+      ap (met_range S (i + 1) (stretch (i + 1) to (rows_in t)) b) (f ∙ ap (λ (x : List C). met_row S i x 0 b m) here)
+      ∙ sym (ap (λ (x : List (List C)). met_range S i x b m) (stretch-more (rows_in t) i to [] (omega arith) lt))
+
+-- words that stay in the same memory twice
+pub still_same : {a b c : PairMarks} → SameWords a b → SameWords b c → SameWords a c
+still_same x y = record { left = y.left ∙ x.left; right = y.right ∙ x.right }

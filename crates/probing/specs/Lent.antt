@@ -1,12 +1,8 @@
--- Rows in lent memory, and the rows that wait on a page.
+-- Rows that wait on a lent page.
 use Rattle.std.specs.Prelude.{ℕ, ◌+◌, ◌-◌, ◌*◌, ◌≤◌, cond, List, length, take, drop, nat_le}
+use Rattle.memory.specs.declared.waiting.WaitingRows.{WaitingRows}
 use Rattle.memory.specs.Rows.{rows_from, put_row}
 use Rattle.nested_loop.specs.Model.{counted, limit}
-use Rattle.probing.specs.declared.lent.LentRows.{LentRows}
-
--- the rows that lie in a piece of lent memory
-abbrev pub rows_of : {C : Type 0} → LentRows C → List (List C)
-rows_of t = rows_from t.rows t.columns t.cells.now
 
 -- the elements from one place to another
 abbrev pub stretch : {X : Type 0} → ℕ → ℕ → List X → List X
@@ -19,6 +15,10 @@ pub record Waiting (C : Type 0) : Type 0 where
 
 abbrev pub waiting_of : {C : Type 0} → ℕ → List C → Waiting C
 waiting_of n cells = record { count = n; page = cells }
+
+-- the same of a lent page
+abbrev pub waits_in : {C : Type 0} → WaitingRows C → Waiting C
+waits_in w = waiting_of w.rows w.cells.now
 
 -- the rows that wait, with so many cells to a row
 abbrev pub waiting_rows : {C : Type 0} → ℕ → Waiting C → List (List C)

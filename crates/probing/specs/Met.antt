@@ -1,11 +1,13 @@
 -- What left rows that meet right rows leave: marks on both sides, and the waiting rows.
 use Rattle.std.specs.Prelude.{◌≡◌, ℕ, ◌+◌, ◌*◌, ◌≤◌, cond, List, [], ◌∷◌, ◌++◌, map, length}
+use Rattle.memory.specs.declared.waiting.WaitingRows.{WaitingRows}
 use Rattle.memory.specs.Marks.{marked, bits_of}
 use Rattle.nested_loop.specs.Model.{Setup, Truth, has_pairs}
 use Rattle.nested_loop.specs.Loop.{is_pair, output_row, left_matched, right_matched, pairs}
 use Rattle.nested_loop.specs.Machine.{or_marks, from_row}
-use Rattle.probing.specs.declared.lent.JoinOutput.{JoinOutput}
-use Rattle.probing.specs.Lent.{Waiting, waiting_of, waiting_rows, appended, HasRoom}
+use Rattle.probing.specs.declared.output.JoinOutput.{JoinOutput}
+use Rattle.probing.specs.declared.pairs.PairMarks.{PairMarks}
+use Rattle.probing.specs.Lent.{Waiting, waiting_of, waits_in, waiting_rows, appended, HasRoom}
 
 -- the words of the left marks and of the right marks, and the waiting rows
 pub record Met (C : Type 0) : Type 0 where
@@ -15,6 +17,15 @@ pub record Met (C : Type 0) : Type 0 where
 
 abbrev pub met_of : {C : Type 0} → List ℕ → List ℕ → ℕ → List C → Met C
 met_of ls rs n cells = record { lefts = ls; rights = rs; waits = waiting_of n cells }
+
+-- the same of lent memory
+abbrev pub met_in : {C : Type 0} → PairMarks → WaitingRows C → Met C
+met_in m w = record { lefts = m.left.now; rights = m.right.now; waits = waits_in w }
+
+-- words of marks in the same lent memory
+pub record SameWords (m m' : PairMarks) : Type 0 where
+  pub left : m'.left.ghost_name ≡ m.left.ghost_name
+  pub right : m'.right.ghost_name ≡ m.right.ghost_name
 
 -- a setup with the missing cell, the verdict, the join type and the output list of a call; its other parts may be any
 pub record PairsBy {C : Type 0} (S : Setup C) (none : C) (says : List C → List C → Truth) (o : JoinOutput) : Type 0 where

@@ -1,8 +1,11 @@
 -- What appending the rest of a side leaves: the waiting rows.
-use Rattle.std.specs.Prelude.{◌≡◌, ℕ, Bool, true, false, cond, List, [], ◌∷◌}
-use Rattle.nested_loop.specs.Model.{Setup, Rest, kept}
-use Rattle.nested_loop.specs.Loop.{output_row, mark_cell}
-use Rattle.probing.specs.declared.lent.JoinOutput.{JoinOutput}
+use Rattle.std.specs.Prelude.{◌≡◌, ℕ, Bool, cond, List, [], ◌∷◌}
+use Rattle.join_types.specs.declared.column.JoinSide.{JoinSide}
+use Rattle.join_types.specs.declared.column.JoinSide.TheVariants.{Left, Right, None}
+use Rattle.join_types.specs.declared.kind.JoinType.{JoinType}
+use Rattle.nested_loop.specs.Model.{Setup, Rest, nothing, kept, left_rest_of, right_rest_of}
+use Rattle.nested_loop.specs.Loop.{output_row, left_row, right_row}
+use Rattle.probing.specs.declared.output.JoinOutput.{JoinOutput}
 use Rattle.probing.specs.Lent.{Waiting, appended}
 
 -- a setup with the cells, the join type and the output list of a call; its other parts may be any
@@ -13,10 +16,17 @@ pub record RestsBy {C : Type 0} (S : Setup C) (none aye nay : C) (o : JoinOutput
   pub type_is : S.join_type ≡ o.join_type
   pub columns_are : S.columns ≡ o.columns.now
 
--- the output row of a left row, or of a right row, in a rest
-abbrev pub side_row : {C : Type 0} → Setup C → Bool → Rest → List C → Bool → List C
-side_row S true k x b = output_row S x [] (mark_cell S k b)
-side_row S false k x b = output_row S [] x (mark_cell S k b)
+-- which rows of a side a type delivers besides pairs; a mark column stands on no side
+abbrev pub side_rest : JoinType → JoinSide → Rest
+side_rest k Left = left_rest_of k
+side_rest k Right = right_rest_of k
+side_rest k None = nothing
+
+-- the output row of a row of that side, in its rest
+abbrev pub side_row : {C : Type 0} → Setup C → JoinSide → List C → Bool → List C
+side_row S Left x b = left_row S x b
+side_row S Right x b = right_row S x b
+side_row S None x b = output_row S [] [] S.missing
 
 -- rows, with a bit for each whether it is marked, one after another: those that the rest keeps are appended
 abbrev pub rest_appended : {C : Type 0} → ℕ → Rest → (List C → Bool → List C) → List (List C) → List Bool → Waiting C → Waiting C

@@ -1,16 +1,18 @@
 // The rest of a side: rows that the join type delivers besides pairs, by their marks.
 ghost use Rattle.std.specs.Prelude.{◌≡◌, ◌+◌, ◌-◌, ◌≤◌, ◌++◌, if◌then◌else◌};
 ghost use Rattle.memory.specs.Marks.{bits_of};
+ghost use Rattle.memory.specs.Rows.{rows_in};
 ghost use Rattle.nested_loop.specs.Model.{Setup, kept, left_rest_of, right_rest_of};
 ghost use Rattle.nested_loop.specs.Loop.{mark_cell, left_row, right_row, left_rest, right_rest};
-ghost use Rattle.probing.specs.Lent.{rows_of, stretch, waiting_of, waiting_rows, appended, HasRoom};
+ghost use Rattle.probing.specs.Lent.{stretch, waits_in, waiting_rows, appended, HasRoom};
 ghost use Rattle.probing.specs.Met.{width};
-ghost use Rattle.probing.specs.Rests.{RestsBy, side_row, rest_appended};
+ghost use Rattle.probing.specs.Rests.{RestsBy, side_rest, side_row, rest_appended};
 
-use crate::{JoinOutput, LentRows};
+use crate::JoinOutput;
 use cells::Cell;
-use join_types::Rest;
-use memory::{append_output, is_marked, row_at};
+use join_types::{JoinSide, Rest};
+use memory::{Rows, WaitingRows, is_marked};
+use std::ops::Range;
 
 // Whether a rest has a row, given whether the row is marked.
 fn keeps(rest: Rest, marked: bool) -> bool
@@ -34,100 +36,95 @@ fn mark_cell<C: Cell>(rest: Rest, marked: bool) -> C
     }
 }
 
-// Writes a left or a right row behind the waiting rows, if the rest has it and it fits. The other side has no cells.
-fn append_row<C: Cell>(
-    output: &JoinOutput,
-    rest: Rest,
-    on_left: bool,
-    row: &[C],
-    marked: bool,
-    waiting: &mut [C],
-    count: usize,
-) -> usize
-    ensures { (S : Setup C) → RestsBy S C.Cell.missing C.Cell.yes C.Cell.no output.now → waiting_of result waiting.new ≡ (if kept rest marked then appended (width S) (side_row S on_left rest row.now marked) (waiting_of count waiting.old) else waiting_of count waiting.old) }
-{
-    if !keeps(rest, marked) {
-        return count;
+impl JoinOutput<'_> {
+    // Which rows of a side come besides pairs; a mark column stands on no side.
+    fn rest(&self, side: JoinSide) -> Rest
+        ensures { result ≡ side_rest self.now.join_type side }
+    {
+        let row = self.join_type.row();
+        match side {
+            JoinSide::Left => row.left_rest,
+            JoinSide::Right => row.right_rest,
+            JoinSide::None => Rest::Nothing,
+        }
     }
-    let mark = mark_cell::<C>(rest, marked);
-    let padding = &row[0..0];
-    let written = if on_left {
-        append_output(waiting, count, output.columns, row, padding, mark)
-    } else {
-        append_output(waiting, count, output.columns, padding, row, mark)
-    };
-    if written {
-        count.saturating_add(1)
-    } else {
-        count
-    }
-}
 
-// Appends the rest of the rows from one place to another, looking at each mark where it stands.
-fn append_rest<C: Cell>(
-    output: &JoinOutput,
-    rest: Rest,
-    on_left: bool,
-    lent: &LentRows<C>,
-    from: usize,
-    to: usize,
-    marks: &[u64],
-    waiting: &mut [C],
-    count: usize,
-) -> usize
-    ensures { (S : Setup C) → RestsBy S C.Cell.missing C.Cell.yes C.Cell.no output.now → waiting_of result waiting.new ≡ rest_appended (width S) rest (side_row S on_left rest) (stretch from to (rows_of lent.now)) (stretch from to (bits_of lent.now.rows marks.now)) (waiting_of count waiting.old) }
-{
-    let mut k = count;
-    for i in from..to.min(lent.rows) {
-        let row = row_at(lent.cells, lent.columns, i);
-        let marked = is_marked(marks, i);
-        k = append_row(output, rest, on_left, row, marked, waiting, k);
-    }
-    k
-}
-
-// Appends the left rest of the left rows from one place to another. Answers how many rows wait then.
-pub fn process_left_unmatched_range<C: Cell>(
-    output: &JoinOutput,
-    left: &LentRows<C>,
-    from: usize,
-    to: usize,
-    left_marks: &[u64],
-    waiting: &mut [C],
-    count: usize,
-) -> usize
-    ensures appended { (S : Setup C) → RestsBy S C.Cell.missing C.Cell.yes C.Cell.no output.now → waiting_of result waiting.new ≡ rest_appended (width S) (left_rest_of S.join_type) (left_row S) (stretch from to (rows_of left.now)) (stretch from to (bits_of left.now.rows left_marks.now)) (waiting_of count waiting.old) }
-    ensures rows { (S : Setup C) → RestsBy S C.Cell.missing C.Cell.yes C.Cell.no output.now → HasRoom (width S) (to - from) (waiting_of count waiting.old) → waiting_rows (width S) (waiting_of result waiting.new) ≡ waiting_rows (width S) (waiting_of count waiting.old) ++ left_rest S (stretch from to (rows_of left.now)) (stretch from to (bits_of left.now.rows left_marks.now)) }
-    ensures few { result ≤ count + (to - from) }
-{
-    let rest = output.join_type.row().left_rest;
-    append_rest(
-        output, rest, true, left, from, to, left_marks, waiting, count,
+    // Writes a row of a side behind the waiting rows, if the side's rest has it and it fits. The other side has no cells.
+    fn append_row<C: Cell>(
+        &self,
+        side: JoinSide,
+        row: &[C],
+        marked: bool,
+        waiting: &mut WaitingRows<C>,
     )
-}
+        ensures page { waiting.new.cells.ghost_name ≡ waiting.old.cells.ghost_name }
+        ensures appended { (S : Setup C) → RestsBy S C.Cell.missing C.Cell.yes C.Cell.no self.now → waits_in waiting.new ≡ (if kept (side_rest S.join_type side) marked then appended (width S) (side_row S side row.now marked) (waits_in waiting.old) else waits_in waiting.old) }
+    {
+        let rest = self.rest(side);
+        if !keeps(rest, marked) {
+            return;
+        }
+        let mark = mark_cell::<C>(rest, marked);
+        let padding = &row[0..0];
+        let (left, right) = match side {
+            JoinSide::Left => (row, padding),
+            JoinSide::Right => (padding, row),
+            JoinSide::None => (padding, padding),
+        };
+        let _ = waiting.append(self.columns, left, right, mark);
+    }
 
-// Appends the right rest of a right batch. Answers how many rows wait then.
-pub fn process_right_unmatched<C: Cell>(
-    output: &JoinOutput,
-    right: &LentRows<C>,
-    right_marks: &[u64],
-    waiting: &mut [C],
-    count: usize,
-) -> usize
-    ensures appended { (S : Setup C) → RestsBy S C.Cell.missing C.Cell.yes C.Cell.no output.now → waiting_of result waiting.new ≡ rest_appended (width S) (right_rest_of S.join_type) (right_row S) (rows_of right.now) (bits_of right.now.rows right_marks.now) (waiting_of count waiting.old) }
-    ensures rows { (S : Setup C) → RestsBy S C.Cell.missing C.Cell.yes C.Cell.no output.now → HasRoom (width S) right.now.rows (waiting_of count waiting.old) → waiting_rows (width S) (waiting_of result waiting.new) ≡ waiting_rows (width S) (waiting_of count waiting.old) ++ right_rest S (rows_of right.now) (bits_of right.now.rows right_marks.now) }
-    ensures few { result ≤ count + right.now.rows }
-{
-    let rest = output.join_type.row().right_rest;
-    append_rest(
-        output,
-        rest,
-        false,
-        right,
-        0,
-        right.rows,
-        right_marks,
-        waiting,
-        count,
+    // Appends the rest of a side's rows from one place to another, looking at each mark where it stands.
+    fn append_rest<C: Cell>(
+        &self,
+        side: JoinSide,
+        rows: &Rows<C>,
+        range: Range<usize>,
+        marks: &[u64],
+        waiting: &mut WaitingRows<C>,
     )
+        ensures page { waiting.new.cells.ghost_name ≡ waiting.old.cells.ghost_name }
+        ensures appended { (S : Setup C) → RestsBy S C.Cell.missing C.Cell.yes C.Cell.no self.now → waits_in waiting.new ≡ rest_appended (width S) (side_rest S.join_type side) (side_row S side) (stretch range.start range.end (rows_in rows.now)) (stretch range.start range.end (bits_of rows.now.count marks.now)) (waits_in waiting.old) }
+    {
+        for i in range.start..range.end.min(rows.count()) {
+            self.append_row(side, rows.row(i), is_marked(marks, i), waiting);
+        }
+    }
+
+    // Appends the left rest of the left rows from one place to another.
+    pub fn process_left_unmatched_range<C: Cell>(
+        &self,
+        left: &Rows<C>,
+        range: Range<usize>,
+        left_marks: &[u64],
+        waiting: &mut WaitingRows<C>,
+    )
+        ensures page { waiting.new.cells.ghost_name ≡ waiting.old.cells.ghost_name }
+        ensures appended { (S : Setup C) → RestsBy S C.Cell.missing C.Cell.yes C.Cell.no self.now → waits_in waiting.new ≡ rest_appended (width S) (left_rest_of S.join_type) (left_row S) (stretch range.start range.end (rows_in left.now)) (stretch range.start range.end (bits_of left.now.count left_marks.now)) (waits_in waiting.old) }
+        ensures rows { (S : Setup C) → RestsBy S C.Cell.missing C.Cell.yes C.Cell.no self.now → HasRoom (width S) (range.end - range.start) (waits_in waiting.old) → waiting_rows (width S) (waits_in waiting.new) ≡ waiting_rows (width S) (waits_in waiting.old) ++ left_rest S (stretch range.start range.end (rows_in left.now)) (stretch range.start range.end (bits_of left.now.count left_marks.now)) }
+        ensures few { waiting.new.rows ≤ waiting.old.rows + (range.end - range.start) }
+    {
+        self.append_rest(JoinSide::Left, left, range, left_marks, waiting);
+    }
+
+    // Appends the right rest of a right batch.
+    pub fn process_right_unmatched<C: Cell>(
+        &self,
+        right: &Rows<C>,
+        right_marks: &[u64],
+        waiting: &mut WaitingRows<C>,
+    )
+        ensures page { waiting.new.cells.ghost_name ≡ waiting.old.cells.ghost_name }
+        ensures appended { (S : Setup C) → RestsBy S C.Cell.missing C.Cell.yes C.Cell.no self.now → waits_in waiting.new ≡ rest_appended (width S) (right_rest_of S.join_type) (right_row S) (rows_in right.now) (bits_of right.now.count right_marks.now) (waits_in waiting.old) }
+        ensures rows { (S : Setup C) → RestsBy S C.Cell.missing C.Cell.yes C.Cell.no self.now → HasRoom (width S) right.now.count (waits_in waiting.old) → waiting_rows (width S) (waits_in waiting.new) ≡ waiting_rows (width S) (waits_in waiting.old) ++ right_rest S (rows_in right.now) (bits_of right.now.count right_marks.now) }
+        ensures few { waiting.new.rows ≤ waiting.old.rows + right.now.count }
+    {
+        self.append_rest(
+            JoinSide::Right,
+            right,
+            0..right.count(),
+            right_marks,
+            waiting,
+        );
+    }
 }

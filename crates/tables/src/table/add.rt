@@ -21,7 +21,7 @@ impl LeftTable<TakesRows> {
         if row.len() != columns {
             return Err(TableRefusal::RowLength);
         }
-        if self.rows >= MOST_ROWS || !put_row(memory, self.rows * columns, row) {
+        if self.rows >= MOST_ROWS || put_row(memory, self.rows * columns, row).is_err() {
             return Err(TableRefusal::Full);
         }
         self.rows += 1;

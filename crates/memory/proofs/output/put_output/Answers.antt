@@ -17,11 +17,8 @@ loop-i-preserved g c =
     let fit : a.at + length a.columns.now ≤ length a.page.now = fits_from _ _ c.if-not-fits.ensures in
     row_more f a.columns.now a.page.now a.at c.loop-i.i c.loop-i.page c.loop-i.invariant c.output_cell.result (record { index = 0; side = Left }) fit c.loop-i-test.true c.output_cell.ensures
 
-pub returns : goal.returns
-returns g c =
+pub returns-clause-cells : goal.returns-clause-cells
+returns-clause-cells g c =
     let a = c.args in
     let f = output_cell g.C.Cell.missing a.left.now a.right.now a.mark in
-    record {
-      room = c.if-not-fits.ensures;
-      cells = row-all f a.columns.now a.page.now a.at c.loop-i.i c.loop-i.page c.loop-i.invariant c.loop-i.auto.i-end c.loop-i-test.false;
-    }
+    row-all f a.columns.now a.page.now a.at c.loop-i.i c.loop-i.page c.loop-i.invariant c.loop-i.auto.i-end c.loop-i-test.false
