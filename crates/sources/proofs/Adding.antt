@@ -1,16 +1,11 @@
 -- One item more is added to what was brought.
-use Rattle.std.proofs.Common.{◌≡◌, ℕ, ◌+◌, ◌*◌, Bool, false, cond, List, [], ◌∷◌, ◌++◌, length, take, vec_items, count_by, sym, refl, ap, ◌∙◌, arith}
-use Rattle.std.specs.Prelude.{All}
+use Rattle.std.proofs.Common.{◌≡◌, ℕ, ◌+◌, Bool, false, cond, List, [], ◌∷◌, ◌++◌, length, vec_items, count_by, sym, refl, ap, ◌∙◌, arith}
 use Rattle.std.proofs.lemmas.List.{append_assoc, append-nil, length-append}
 use Rattle.std.proofs.lemmas.List.Sums.{sum_by_push}
 use Rattle.memory.specs.Items.{Item, batch, wait, fault}
 use Rattle.memory.specs.Rows.{cells_of}
-use Rattle.sources.specs.declared.answer.SourceAnswer.TheVariants.{Batch}
 use Rattle.sources.specs.declared.drained.Drained.{Drained}
-use Rattle.sources.specs.Asked.{Taken}
 use Rattle.sources.specs.Drained.{rows_of, is_batch_item, is_wait_item, is_fault_item, counted, Brought}
-use Rattle.sources.specs.Fits.{Fits}
-use Rattle.sources.proofs.Layers.{batch_cells}
 
 module _ {C : Type 0} where
   rows_append : (xs ys : List (Item C)) → rows_of (xs ++ ys) ≡ rows_of xs ++ rows_of ys
