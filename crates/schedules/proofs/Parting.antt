@@ -1,10 +1,10 @@
 -- Walking over the lines of a text up to the first empty one.
-use Rattle.std.proofs.Common.{◌≡◌, ℕ, zero, suc, ◌+◌, ◌<◌, ◌≤◌, Bool, true, false, cond, not, eqb, ◌⊎◌, List, [], ◌∷◌, ◌++◌, length, get_or, take, drop, sym, refl, ap, ◌∙◌, inl, inr, ⊎_elim, append_assoc, append-nil, arith, length-drop, length-take}
+use Rattle.std.proofs.Common.{◌≡◌, ℕ, zero, suc, ◌+◌, ◌<◌, ◌≤◌, Bool, true, false, cond, not, eqb, ◌⊎◌, List, [], ◌∷◌, ◌++◌, length, get_or, take, drop, sym, subst, refl, ap, ◌∙◌, inl, inr, ⊎_elim, append_assoc, append-nil, arith, length-drop, length-take}
 use Rattle.std.specs.List.{prefix_len}
 use Rattle.std.proofs.lemmas.List.{drop_all, take_all, take_more, drop-drop}
-use Rattle.std.proofs.lemmas.List.Sums.{prefix_len-le-length, prefix_len-drop_yes, prefix_len-drop_no}
-use Rattle.std.proofs.lemmas.Bool.{eq-eqb, ne_eqb, eqb-true, cases_lt}
-use Rattle.lines.specs.Written.{before, unlike, line_at, behind}
+use Rattle.std.proofs.lemmas.List.Sums.{prefix_len-le-length}
+use Rattle.std.proofs.lemmas.Bool.{eqb-true, cases_lt}
+use Rattle.lines.specs.Written.{before, line_at, behind}
 use Rattle.texts.specs.Items.{lines_of}
 use Rattle.texts.proofs.Firsts.{lines_first, left_behind}
 use Rattle.schedules.specs.Blocks.{is_full, first_block, second_block}
@@ -57,19 +57,20 @@ line_more ds x h =
 -- n lines that are not empty lie before the place, and the other lines begin there
 pub record Walked (text : List ℕ) (at n : ℕ) : Type 0 where
   pub within : at ≤ length text
-  pub few : n ≤ at
   pub count : n + prefix_len is_full (lines_of (drop at text)) ≡ prefix_len is_full (lines_of text)
   pub from_it : lines_of (drop at text) ≡ drop n (lines_of text)
   -- the text is at its end, or a line begins here whatever follows
   pub parted : (at ≡ length text) ⊎ ((x : List ℕ) → lines_of (take at text ++ x) ≡ take n (lines_of text) ++ lines_of x)
 
 pub walked_none : (text : List ℕ) → Walked text 0 0
-walked_none text = record { within = omega arith; few = omega arith; count = omega arith; from_it = refl; parted = inr (λ x. refl) }
+walked_none text = record { within = omega arith; count = omega arith; from_it = refl; parted = inr (λ x. refl) }
 
-full_take : (m : ℕ) (ds : List ℕ) → 0 < m → 0 < length ds → is_full (take m ds) ≡ true
-full_take zero ds h k = absurd (omega arith)
-full_take (suc m) [] h k = absurd (omega arith)
-full_take (suc m) (d ∷ ds) h k = refl
+pub walked_at : (text : List ℕ) (at n next m : ℕ) → next ≡ at → m ≡ n → Walked text at n → Walked text next m
+walked_at text at n next m a b w = subst (λ k. Walked text k m) (sym a) (subst (Walked text at) (sym b) w)
+
+pub full_some : (l : List ℕ) → 0 < length l → is_full l ≡ true
+full_some [] h = absurd (omega arith)
+full_some (b ∷ bs) h = refl
 
 -- what lies up to the place behind a line that ends with a line feed
 take_behind : (text : List ℕ) (at m : ℕ) → m < length (drop at text) → get_or (drop at text) m 0 ≡ 10 → take (at + m + 1) text ≡ take at text ++ (take m (drop at text) ++ 10 ∷ [])
@@ -122,16 +123,12 @@ module _ (text : List ℕ) (at n : ℕ) (w : Walked text at n) (here : at < leng
       (cases_lt (at + m) (length text))
 
   -- one line that is not empty
-  pub walked_more : (get_or text at 0 ≡ 10 → ⊥) → Walked text (behind text at) (n + 1)
+  pub walked_more : is_full (line_at text at) ≡ true → Walked text (behind text at) (n + 1)
   walked_more full =
-      let m = before 10 (drop at text) in
-      let some : 0 < m = omega (arith, prefix_len-drop_yes (unlike 10) text at 0 here (ap not (ne_eqb _ _ full))) in
-      let f : is_full (line_at text at) ≡ true = full_take m (drop at text) some (omega (arith, length-drop at text)) in
       let c : prefix_len is_full (lines_of (drop at text)) ≡ 1 + prefix_len is_full (lines_of (drop (behind text at) text)) =
-      ap (prefix_len is_full) (first_line text at here) ∙ ap (λ t. cond t (1 + prefix_len is_full (lines_of (drop (behind text at) text))) 0) f in
+      ap (prefix_len is_full) (first_line text at here) ∙ ap (λ t. cond t (1 + prefix_len is_full (lines_of (drop (behind text at) text))) 0) full in
       record {
         within = omega arith;
-        few = omega (arith, w.few);
         count = omega (arith, w.count);
         from_it = one_more;
         parted = parted_more w.parted;
@@ -143,13 +140,13 @@ pub record Apart (text : List ℕ) (end next n : ℕ) : Type 0 where
   pub second : lines_of (drop next text) ≡ second_block (lines_of text)
   pub count : n ≡ length (first_block (lines_of text))
 
-pub apart_here : (text : List ℕ) (at n : ℕ) → Walked text at n → at < length text → get_or text at 0 ≡ 10 → Apart text at (at + 1) n
-apart_here text at n w here feed =
+pub apart_here : (text : List ℕ) (at n : ℕ) → Walked text at n → at < length text → length (line_at text at) ≡ 0 → Apart text at (behind text at) n
+apart_here text at n w here short =
     let ls = lines_of text in
-    let none : before 10 (drop at text) ≡ 0 = prefix_len-drop_no (unlike 10) text at 0 here (ap not (eq-eqb _ _ feed)) in
-    let nx : behind text at ≡ at + 1 = omega arith in
-    let empty : lines_of (drop at text) ≡ [] ∷ lines_of (drop (at + 1) text) =
-    first_line text at here ∙ ap (λ m. take m (drop at text) ∷ lines_of (drop (behind text at) text)) none ∙ ap (λ m. [] ∷ lines_of (drop m text)) nx in
+    let m = before 10 (drop at text) in
+    let none : m ≡ 0 = omega (arith, length-take m (drop at text), length-drop at text, short) in
+    let empty : lines_of (drop at text) ≡ [] ∷ lines_of (drop (behind text at) text) =
+    first_line text at here ∙ ap (λ k. take k (drop at text) ∷ lines_of (drop (behind text at) text)) none in
     let c : n ≡ prefix_len is_full ls = omega (arith, w.count, ap (prefix_len is_full) empty) in
     record {
       first = ⊎_elim (λ e. absurd (omega arith)) (λ p. ap lines_of (sym (append-nil (take at text))) ∙ p [] ∙ append-nil (take n ls) ∙ ap (λ m. take m ls) c) w.parted;
@@ -157,16 +154,15 @@ apart_here text at n w here feed =
       count = omega (arith, length-take (prefix_len is_full ls) ls, prefix_len-le-length is_full ls);
     }
 
-pub apart_end : (text : List ℕ) (at n : ℕ) → Walked text at n → length text ≤ at → Apart text (length text) (length text) n
+pub apart_end : (text : List ℕ) (at n : ℕ) → Walked text at n → length text ≤ at → Apart text at at n
 apart_end text at n w end =
     let ls = lines_of text in
     let none : lines_of (drop at text) ≡ [] = ap lines_of (drop_all at text end) in
     let c : n ≡ prefix_len is_full ls = omega (arith, w.count, ap (prefix_len is_full) none) in
-    let gone : drop n ls ≡ [] = sym w.from_it ∙ none in
-    let all : length ls ≤ n = omega (arith, length-drop n ls, ap length gone) in
+    let all : length ls ≤ n = omega (arith, length-drop n ls, ap length (sym w.from_it ∙ none)) in
     record {
-      first = ap lines_of (take_all (length text) text (omega arith)) ∙ sym (take_all n ls all) ∙ ap (λ m. take m ls) c;
-      second = ap lines_of (drop_all (length text) text (omega arith)) ∙ sym (drop_all (prefix_len is_full ls + 1) ls (omega arith));
+      first = ap lines_of (take_all at text end) ∙ sym (take_all n ls all) ∙ ap (λ m. take m ls) c;
+      second = none ∙ sym (drop_all (prefix_len is_full ls + 1) ls (omega arith));
       count = omega (arith, length-take (prefix_len is_full ls) ls, prefix_len-le-length is_full ls);
     }
 
