@@ -3,6 +3,7 @@ ghost use Rattle.std.specs.Prelude.{◌≡◌, ◌*◌, ◌≤◌, true, false, 
 ghost use Rattle.verdicts.specs.Lengths.{are_minutes};
 
 use crate::MinutesRefusal;
+use std::fmt;
 
 #[derive(Clone, Copy, Debug, PartialEq, Eq)]
 pub struct Minutes {
@@ -22,6 +23,17 @@ impl TryFrom<u32> for Minutes {
             return Err(MinutesRefusal::OutOfRange);
         }
         Ok(Minutes { count })
+    }
+}
+
+// Minutes print as their count.
+impl fmt::Display for Minutes {
+    ghost use Rattle.std.specs.Prelude.{Some, decimal};
+
+    ghost output = { λ m. Some (decimal m.count) };
+
+    fn fmt<W: fmt::Write>(&self, f: &mut fmt::Formatter<W>) -> fmt::Result {
+        f.write(self.count)
     }
 }
 
