@@ -2,9 +2,11 @@
 use Rattle.std.proofs.Common.{◌≡◌, ℕ, zero, suc, ◌+◌, ◌<◌, ◌≤◌, Bool, true, false, cond, not, eqb, ◌⊎◌, List, [], ◌∷◌, ◌++◌, length, get_or, take, drop, sym, subst, refl, ap, ◌∙◌, inl, inr, ⊎_elim, append_assoc, append-nil, arith, length-drop, length-take}
 use Rattle.std.specs.List.{prefix_len}
 use Rattle.std.proofs.lemmas.List.{drop_all, take_all, take_more, drop-drop}
-use Rattle.std.proofs.lemmas.List.Sums.{prefix_len-le-length}
-use Rattle.std.proofs.lemmas.Bool.{eqb-true, cases_lt}
-use Rattle.lines.specs.Written.{before, line_at, behind}
+use Rattle.std.proofs.lemmas.List.Sums.{prefix_len_stops, prefix_len-le-length}
+use Rattle.std.proofs.Math.Seq.{take-append_seam, drop-append-add}
+use Rattle.std.proofs.lemmas.List.Folds.{length-prefix_len}
+use Rattle.std.proofs.lemmas.Bool.{not-false, eqb-true, cases_lt}
+use Rattle.lines.specs.Written.{before, unlike, line_at, behind}
 use Rattle.texts.specs.Items.{lines_of}
 use Rattle.texts.proofs.Firsts.{lines_first, left_behind}
 use Rattle.schedules.specs.Blocks.{is_full, first_block, second_block}
@@ -28,27 +30,19 @@ feed_first : (ds x : List ℕ) → before 10 ds < length ds → before 10 (take 
 feed_first [] x h = absurd (omega arith)
 feed_first (d ∷ ds) x h = feed_step d ds x (eqb d 10) refl (feed_first ds x) h
 
-take-front : (n : ℕ) (xs ys : List ℕ) → n ≤ length xs → take n (take n xs ++ ys) ≡ take n xs
-take-front zero xs ys h = refl
-take-front (suc n) [] ys h = absurd (omega arith)
-take-front (suc n) (x ∷ xs) ys h = ap (λ l. x ∷ l) (take-front n xs ys (omega arith))
-
-drop-front : (n : ℕ) (xs : List ℕ) (y : ℕ) (ys : List ℕ) → n ≤ length xs → drop (suc n) (take n xs ++ y ∷ ys) ≡ ys
-drop-front zero xs y ys h = refl
-drop-front (suc n) [] y ys h = absurd (omega arith)
-drop-front (suc n) (x ∷ xs) y ys h = drop-front n xs y ys (omega arith)
-
 -- a line with its line feed, and more behind it
 line_more : (ds x : List ℕ) → before 10 ds < length ds → lines_of (take (before 10 ds) ds ++ 10 ∷ x) ≡ take (before 10 ds) ds ∷ lines_of x
 line_more ds x h =
     let m = before 10 ds in
     let all = take m ds ++ 10 ∷ x in
     let f = feed_first ds x h in
+    let next : suc m ≡ length (take m ds) + 1 = omega (arith, length-prefix_len (unlike 10) ds) in
+    let long : length (take m ds) ≡ m = length-prefix_len (unlike 10) ds in
     let some : 0 < length all = not-nil (take m ds) x in
     lines_first all some
     ∙ ap (λ n. take n all ∷ lines_of (drop (suc n) all)) f
-    ∙ ap (λ l. l ∷ lines_of (drop (suc m) all)) (take-front m ds (10 ∷ x) (omega arith))
-    ∙ ap (λ l. take m ds ∷ lines_of l) (drop-front m ds 10 x (omega arith))
+    ∙ ap (λ l. l ∷ lines_of (drop (suc m) all)) (ap (λ n. take n all) (sym long) ∙ take-append_seam (take m ds) (10 ∷ x))
+    ∙ ap (λ l. take m ds ∷ lines_of l) (ap (λ n. drop n all) next ∙ drop-append-add (take m ds) (10 ∷ x) 1)
   where
     not-nil : (xs ys : List ℕ) → 0 < length (xs ++ 10 ∷ ys)
     not-nil [] ys = omega arith
@@ -84,13 +78,8 @@ take_behind (t ∷ ts) (suc at) m h e =
     ap (λ n. take n (t ∷ ts)) s ∙ ap (λ l. t ∷ l) (take_behind ts at m h e)
 
 -- the byte at the first line feed
-at_feed_step : (d : ℕ) (ds : List ℕ) (t : Bool) → eqb d 10 ≡ t → (before 10 ds < length ds → get_or ds (before 10 ds) 0 ≡ 10) → cond (not t) (1 + before 10 ds) 0 < suc (length ds) → get_or (d ∷ ds) (cond (not t) (1 + before 10 ds) 0) 0 ≡ 10
-at_feed_step d ds true e more l = eqb-true d 10 e
-at_feed_step d ds false e more l = let one : 1 + before 10 ds ≡ suc (before 10 ds) = omega arith in ap (λ n. get_or (d ∷ ds) n 0) one ∙ more (omega arith)
-
 at_feed : (ds : List ℕ) → before 10 ds < length ds → get_or ds (before 10 ds) 0 ≡ 10
-at_feed [] h = absurd (omega arith)
-at_feed (d ∷ ds) h = at_feed_step d ds (eqb d 10) refl (at_feed ds) h
+at_feed ds h = eqb-true _ _ (not-false _ (prefix_len_stops (unlike 10) ds 0 h))
 
 take_more_first : (k : ℕ) (ls : List (List ℕ)) (l : List ℕ) (rest : List (List ℕ)) → drop k ls ≡ l ∷ rest → take (k + 1) ls ≡ take k ls ++ l ∷ []
 take_more_first zero [] l rest e = let z : ◌≡◌ {A = ℕ} 0 1 = cc in absurd (omega arith)

@@ -47,7 +47,6 @@ impl Minutes {
     pub fn seconds(self) -> u64
         ensures { result ≡ 60 * self.count }
     {
-        let Minutes { count } = self;
-        60 * u64::from(count)
+        60 * u64::from(self.count)
     }
 }
