@@ -1,5 +1,7 @@
 use Rattle.std.proofs.Common.{◌≡◌, ℕ, suc, ◌≤◌, max, length, sym, ap, ◌∙◌, subst, arith}
+use Rattle.std.specs.Prelude.{All}
 use Rattle.std.specs.List.{AllByRecursion}
+use Rattle.std.proofs.lemmas.List.Elements.{All-head, recursion_from_All}
 use Rattle.memory.specs.Items.{batch}
 use Rattle.nested_loop.specs.Model.{counted}
 use Rattle.sources.specs.Fits.{Fits}
@@ -14,8 +16,8 @@ returns-then-rows-gt0 g c =
     let most = g.S.Source.most in
     let after = g.S.Source.items c.ask.new.self in
     let t = rw c.in-FetchingRight-Batch.is-1 at c.in-Ok.ensures.answer.1 in
-    let fits : Fits most (g.S.Source.width a.source.now) (batch t.0) = (subst (AllByRecursion (Fits most (g.S.Source.width a.source.now))) t.1 (g.S.Source.fits a.source.now)).0 in
-    let wide : AllByRecursion (λ r. length r ≡ plan.list.right_columns) t.0 = subst (λ (w : ℕ). AllByRecursion (λ r. length r ≡ w) t.0) c.requires.columns fits.1 in
+    let fits : Fits most (g.S.Source.width a.source.now) (batch t.0) = All-head (Fits most (g.S.Source.width a.source.now)) (batch t.0) after (subst (All (Fits most (g.S.Source.width a.source.now))) t.1 (g.S.Source.fits a.source.now)) in
+    let wide : AllByRecursion (λ r. length r ≡ plan.list.right_columns) t.0 = recursion_from_All _ t.0 (subst (λ (w : ℕ). All (λ r. length r ≡ w) t.0) c.requires.columns fits.1) in
     let large : c.max-probe.result ≡ max p.largest most = c.max-probe.ensures ∙ ap (max p.largest) c.largest-largest.ensures in
     let more : c.saturating_add-probe.result ≡ counted (suc p.taken) = omega (arith, c.saturating_add-probe.ensures) in
     let some : most ≤ 1024 = g.S.Source.small in
