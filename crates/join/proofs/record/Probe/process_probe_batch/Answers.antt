@@ -8,13 +8,13 @@ use Rattle.join.specs.View.{setup_in}
 use Rattle.join.specs.Sound.{Placed, room_of}
 use Rattle.join.proofs.Quiet.{room_in, rows_first}
 use Rattle.join.proofs.Joining.{joined_few, joined_pairs, met_handles, met_seen}
-use Rattle.join.proofs.probe.process_probe_batch.Goals as goal
+use Rattle.join.proofs.record.Probe.process_probe_batch.Goals as goal
 
 pub returns : goal.returns
 returns g c =
     let a = c.args in
     let plan = a.plan.now in
-    let p = a.probe.now in
+    let p = a.self.now in
     let S = setup_in g.V.Cell.Cell.missing g.V.Cell.Cell.yes g.V.Cell.Cell.no plan (g.V.Verdict.says a.verdict.now) a.left.now in
     let t = c.rows_joined.result in
     let e = c.process_left_range_join.ensures in
