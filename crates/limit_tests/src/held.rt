@@ -4,15 +4,22 @@ use cells::Full;
 use std::test::Fail;
 use tables::{Gathering, TableRefusal};
 
-// Column counts, and the refusal's number, or 0 where there is none.
-const BEGINS: &[(usize, u8)] = &[(0, 1), (1, 0), (2, 0), (16, 0), (17, 1), (usize::MAX, 1)];
+// Column counts, and the refusal's number, if there is one.
+const BEGINS: &[(usize, Option<u8>)] = &[
+    (0, Some(1)),
+    (1, None),
+    (2, None),
+    (16, None),
+    (17, Some(1)),
+    (usize::MAX, Some(1)),
+];
 
 #[test]
 fn begins(rt: HostRuntime) {
     for &(columns, number) in BEGINS {
         let right = match Gathering::begin(columns) {
-            Ok(table) => number == 0 && table.columns() == columns && table.rows() == 0,
-            Err(refusal) => refusal.number() == number,
+            Ok(table) => number.is_none() && table.columns() == columns && table.rows() == 0,
+            Err(refusal) => number == Some(refusal.number()),
         };
         assert!(rt; right, "{}", columns);
     }
@@ -35,13 +42,7 @@ const ADDS: &[(usize, usize, usize, usize, u8)] = &[
 
 // Adds a row until it is refused; the refusal.
 fn fill(table: &mut Gathering, memory: &mut [Full], row: &[Full]) -> Option<TableRefusal> {
-    for _ in 0..5000 {
-        match table.add(memory, row) {
-            Ok(()) => {}
-            Err(refusal) => return Some(refusal),
-        }
-    }
-    None
+    (0..5000).find_map(|_| table.add(memory, row).err())
 }
 
 #[test]
@@ -49,19 +50,14 @@ fn adds(rt: HostRuntime) -> Result<(), Fail> {
     let row = [Full::YesNo(true); 16];
     for &(columns, cells, length, rows, number) in ADDS {
         let mut memory = page(rt.alloc(), cells)?;
-        let mut right = false;
-        match Gathering::begin(columns) {
-            Ok(mut table) => {
-                match fill(&mut table, memory.as_mut_slice(), &row[0..length.min(16)]) {
-                    Some(refusal) => right = refusal.number() == number && table.rows() == rows,
-                    None => {}
-                }
-                let sealed = table.seal();
-                right = right && sealed.rows() == rows && sealed.columns() == columns;
-            }
-            Err(_) => {}
-        }
-        assert!(rt; right, "{columns} {cells} {length}");
+        let mut table = Gathering::begin(columns).map_err(TableRefusal::number)?;
+        let refusal = fill(&mut table, memory.as_mut_slice(), &row[..length.min(16)]);
+        let refused = refusal.map(TableRefusal::number);
+        assert_eq!(rt; refused, Some(number), "{columns} {cells} {length}");
+        assert_eq!(rt; table.rows(), rows, "{columns} {cells} {length}");
+        let sealed = table.seal();
+        assert_eq!(rt; sealed.rows(), rows, "{columns} {cells} {length}");
+        assert_eq!(rt; sealed.columns(), columns, "{columns} {cells} {length}");
     }
     Ok(())
 }

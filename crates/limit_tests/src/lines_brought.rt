@@ -4,19 +4,22 @@ use sources::SourceAnswer::Batch;
 use sources::{Fault, Present, Source, SourceAnswer};
 use std::alloc::{AllocError, Global};
 use std::test::Fail;
-use text_source::{TextColumns, TextSource};
+use text_source::{TextColumns, TextRefusal, TextSource};
 
-// Column counts, and the refusal's number, or 0 where there is none.
-const COLUMNS: &[(usize, u8)] = &[(0, 16), (1, 0), (16, 0), (17, 16), (usize::MAX, 16)];
+// Column counts, and the refusal's number, if there is one.
+const COLUMNS: &[(usize, Option<u8>)] = &[
+    (0, Some(16)),
+    (1, None),
+    (16, None),
+    (17, Some(16)),
+    (usize::MAX, Some(16)),
+];
 
 #[test]
 fn columns(rt: HostRuntime) {
     for &(columns, number) in COLUMNS {
-        let right = match TextColumns::check(columns) {
-            Ok(_) => number == 0,
-            Err(refusal) => refusal.number() == number,
-        };
-        assert!(rt; right, "{}", columns);
+        let refused = TextColumns::check(columns).err().map(TextRefusal::number);
+        assert_eq!(rt; refused, number, "{}", columns);
     }
 }
 
@@ -81,15 +84,10 @@ fn texts(rt: HostRuntime) -> Result<(), Fail> {
         let text = lines(rt.alloc(), times, tail)?;
         let mut asked = page(rt.alloc(), 128)?;
         let mut short = page(rt.alloc(), 127)?;
-        let mut right = false;
-        match TextColumns::check(2) {
-            Ok(columns) => {
-                let mut source = TextSource::new(columns, text.as_slice());
-                right = is_refused(&mut source, short.as_mut_slice())
-                    && answers(&mut source, asked.as_mut_slice(), expected);
-            }
-            Err(_) => {}
-        }
+        let columns = TextColumns::check(2).map_err(TextRefusal::number)?;
+        let mut source = TextSource::new(columns, text.as_slice());
+        let right = is_refused(&mut source, short.as_mut_slice())
+            && answers(&mut source, asked.as_mut_slice(), expected);
         assert!(rt; right, "{times} {tail:?}");
     }
     Ok(())
@@ -108,15 +106,10 @@ fn layers(rt: HostRuntime) -> Result<(), Fail> {
     for &(times, tail, expected) in LAYERS {
         let text = lines(rt.alloc(), times, tail)?;
         let mut asked = page(rt.alloc(), 128)?;
-        let mut right = false;
-        match TextColumns::check(2) {
-            Ok(columns) => {
-                let below = Present::new(TextSource::new(columns, text.as_slice()), 0);
-                let mut source = Present::new(below, 1);
-                right = answers(&mut source, asked.as_mut_slice(), expected);
-            }
-            Err(_) => {}
-        }
+        let columns = TextColumns::check(2).map_err(TextRefusal::number)?;
+        let below = Present::new(TextSource::new(columns, text.as_slice()), 0);
+        let mut source = Present::new(below, 1);
+        let right = answers(&mut source, asked.as_mut_slice(), expected);
         assert!(rt; right, "{times} {tail:?}");
     }
     Ok(())

@@ -2,34 +2,33 @@
 use crate::common::{answers, is_refused, page};
 use cells::Place;
 use sources::SourceAnswer::Batch;
-use sources::{Present, Source, SourceAnswer, TableShape, TableSource};
+use sources::{Present, ShapeRefusal, Source, SourceAnswer, TableShape, TableSource};
 use std::test::Fail;
 
-// Cells, columns, batch length, and the refusal's number, or 0 where there is none.
-const SHAPES: &[(usize, usize, usize, u8)] = &[
-    (0, 1, 1, 0),
-    (6, 2, 0, 14),
-    (6, 2, 1, 0),
-    (6, 2, 1024, 0),
-    (6, 2, 1025, 14),
-    (6, 0, 3, 16),
-    (6, 4, 3, 16),
-    (16, 16, 1, 0),
-    (17, 17, 1, 16),
-    (7, 2, 1, 16),
-    (7, 2, 0, 14),
-    (6, 0, 1025, 14),
-    (0, 0, 1, 16),
+// Cells, columns, batch length, and the refusal's number, if there is one.
+const SHAPES: &[(usize, usize, usize, Option<u8>)] = &[
+    (0, 1, 1, None),
+    (6, 2, 0, Some(14)),
+    (6, 2, 1, None),
+    (6, 2, 1024, None),
+    (6, 2, 1025, Some(14)),
+    (6, 0, 3, Some(16)),
+    (6, 4, 3, Some(16)),
+    (16, 16, 1, None),
+    (17, 17, 1, Some(16)),
+    (7, 2, 1, Some(16)),
+    (7, 2, 0, Some(14)),
+    (6, 0, 1025, Some(14)),
+    (0, 0, 1, Some(16)),
 ];
 
 #[test]
 fn shapes(rt: HostRuntime) {
     for &(cells, columns, batch, number) in SHAPES {
-        let right = match TableShape::check(cells, columns, batch) {
-            Ok(_) => number == 0,
-            Err(refusal) => refusal.number() == number,
-        };
-        assert!(rt; right, "{cells} {columns} {batch}");
+        let refused = TableShape::check(cells, columns, batch)
+            .err()
+            .map(ShapeRefusal::number);
+        assert_eq!(rt; refused, number, "{cells} {columns} {batch}");
     }
 }
 
@@ -53,15 +52,10 @@ fn cuts(rt: HostRuntime) -> Result<(), Fail> {
         let cells: Vec<Place> = page(rt.alloc(), rows)?;
         let mut asked = page(rt.alloc(), 1024)?;
         let mut short = page(rt.alloc(), 1023)?;
-        let mut right = false;
-        match TableShape::check(rows, 1, batch) {
-            Ok(shape) => {
-                let mut source = TableSource::new(shape, cells.as_slice());
-                right = is_refused(&mut source, short.as_mut_slice())
-                    && answers(&mut source, asked.as_mut_slice(), expected);
-            }
-            Err(_) => {}
-        }
+        let shape = TableShape::check(rows, 1, batch)?;
+        let mut source = TableSource::new(shape, cells.as_slice());
+        let right = is_refused(&mut source, short.as_mut_slice())
+            && answers(&mut source, asked.as_mut_slice(), expected);
         assert!(rt; right, "{rows} {batch}");
     }
     Ok(())
@@ -86,15 +80,10 @@ const LAYERS: &[(&[Place], usize, &[SourceAnswer])] = &[
 fn layers(rt: HostRuntime) -> Result<(), Fail> {
     for &(cells, column, expected) in LAYERS {
         let mut asked = page(rt.alloc(), 2048)?;
-        let mut right = false;
-        match TableShape::check(cells.len(), 2, 2) {
-            Ok(shape) => {
-                let below = Present::new(TableSource::new(shape, cells), 0);
-                let mut source = Present::new(below, column);
-                right = answers(&mut source, asked.as_mut_slice(), expected);
-            }
-            Err(_) => {}
-        }
+        let shape = TableShape::check(cells.len(), 2, 2)?;
+        let below = Present::new(TableSource::new(shape, cells), 0);
+        let mut source = Present::new(below, column);
+        let right = answers(&mut source, asked.as_mut_slice(), expected);
         assert!(rt; right, "{} {column}", cells.len());
     }
     Ok(())

@@ -1,14 +1,15 @@
 -- What a text or a line stands for, or that it stands for nothing.
-use Rattle.std.proofs.Common.{◌≡◌, ℕ, zero, suc, ◌+◌, ◌-◌, ◌<◌, ◌⊎◌, List, [], ◌∷◌, length, get_or, take, drop, ℤ, pos, negsuc, refl, ap, ◌∙◌, subst, inl, inr, ⊎_elim, arith}
+use Rattle.std.proofs.Common.{◌≡◌, ℕ, ◌-◌, ◌⊎◌, List, [], ◌∷◌, length, get_or, ℤ, pos, negsuc, refl, ap, ◌∙◌, inl, inr, ⊎_elim, arith}
+use Rattle.std.specs.List.{AllZip}
 use Rattle.std.specs.Str.{all_ascii_digits}
-use Rattle.std.proofs.lemmas.List.{nil_from_length, take_all}
+use Rattle.std.proofs.lemmas.List.{nil_from_length}
 use Rattle.std.proofs.lemmas.Bool.{cases_lt, cases_eq, cases_Bool, both_ways}
 use Rattle.cells.specs.Codes.{is_code, packed}
 use Rattle.cells.specs.declared.full.Full.{Full}
 use Rattle.cells.specs.declared.full.Full.TheVariants.{Missing, Number, Code}
 use Rattle.cells.proofs.Packing.{back}
-use Rattle.lines.specs.Written.{Sized, Numeral, Figures, Writes, Means, value, commas, before}
-use Rattle.lines.proofs.Splits.{split, step_on, step_back, stuck}
+use Rattle.lines.specs.Written.{Sized, Numeral, Figures, Writes, Means, value}
+use Rattle.lines.proofs.Splits.{texts, cells_from, means_from}
 use Rattle.lines.proofs.Texts.{no_minus, not_figures, no_cell}
 
 sized_decided : (t : List ℕ) → Sized t ⊎ (Sized t → ⊥)
@@ -70,21 +71,24 @@ cell_decided t =
     (cases_Bool (is_code t)))
     (cases_eq (length t) 0)
 
-row_within : (n : ℕ) (line : List ℕ) → commas line < n → ((r : List Full) × Means r line) ⊎ ((r : List Full) → Means r line → ⊥)
-row_within zero line h = absurd (omega arith)
-row_within (suc n) line h =
+texts_decided : (ts : List (List ℕ)) → ((r : List Full) × AllZip Writes r ts) ⊎ ((r : List Full) → AllZip Writes r ts → ⊥)
+texts_decided [] = inl ([], tt)
+texts_decided (t ∷ ts) =
     ⊎_elim
     (λ c. ⊎_elim
-    (λ more.
-    let s = split line more in
-    ⊎_elim
-    (λ r. inl (c.0 ∷ r.0, step_on c.0 r.0 line more c.1 r.1))
-    (λ none. inr (λ r k. let p = step_back r line more k in none p.0 p.1))
-    (row_within n (drop (suc (before 44 line)) line) (omega (arith, s.count))))
-    (λ all. inl (c.0 ∷ [], subst (Writes c.0) (take_all (before 44 line) line all) c.1))
-    (cases_lt (before 44 line) (length line)))
-    (λ none. inr (λ r k. stuck r line none k))
-    (cell_decided (take (before 44 line) line))
+    (λ r. inl (c.0 ∷ r.0, (c.1, r.1)))
+    (λ none. inr (λ r w. rest r w none))
+    (texts_decided ts))
+    (λ none. inr (λ r w. first r w none))
+    (cell_decided t)
+  where
+    first : (r : List Full) → AllZip Writes r (t ∷ ts) → ((c : Full) → Writes c t → ⊥) → ⊥
+    first [] w none = w
+    first (c ∷ cs) w none = none c w.0
+
+    rest : (r : List Full) → AllZip Writes r (t ∷ ts) → ((r : List Full) → AllZip Writes r ts → ⊥) → ⊥
+    rest [] w none = w
+    rest (c ∷ cs) w none = none cs w.1
 
 pub row_decided : (line : List ℕ) → ((r : List Full) × Means r line) ⊎ ((r : List Full) → Means r line → ⊥)
-row_decided line = row_within (commas line + 1) line (omega arith)
+row_decided line = ⊎_elim (λ d. inl (d.0, means_from d.0 line d.1)) (λ none. inr (λ r k. none r (cells_from r line k))) (texts_decided (texts line))

@@ -1,6 +1,6 @@
 -- A text has one meaning, and a reader one answer.
-use Rattle.std.proofs.Common.{◌≡◌, ℕ, suc, true, List, [], ◌∷◌, ◌++◌, length, get_or, take, drop, ℤ, pos, negsuc, Ok, Err, Result, sym, refl, ap, ◌∙◌, subst, arith}
-use Rattle.std.proofs.lemmas.List.{take_at}
+use Rattle.std.proofs.Common.{◌≡◌, ℕ, suc, true, List, [], ◌∷◌, length, get_or, drop, ℤ, pos, negsuc, Ok, Err, Result, sym, refl, ap, ◌∙◌, arith}
+use Rattle.std.specs.List.{AllZip}
 use Rattle.cells.specs.Codes.{letters, is_code}
 use Rattle.cells.specs.declared.full.Full.{Full}
 use Rattle.cells.specs.declared.full.Full.TheVariants.{Missing, Number, Code, YesNo}
@@ -10,9 +10,9 @@ use Rattle.lines.specs.declared.reader.Answer.{Answer}
 use Rattle.lines.specs.declared.reader.Answer.TheVariants.{Row, End}
 use Rattle.lines.specs.declared.reader.LineRefusal.{LineRefusal}
 use Rattle.lines.specs.declared.reader.LineRefusal.TheVariants.{Miscounted, Malformed}
-use Rattle.lines.specs.Written.{Figures, Writes, Means, value, commas, before}
+use Rattle.lines.specs.Written.{Figures, Writes, Means, value}
 use Rattle.lines.specs.Rows.{Read}
-use Rattle.lines.proofs.Splits.{plain, at_comma, after_comma, means_count}
+use Rattle.lines.proofs.Splits.{texts, cells_from, means_count}
 use Rattle.lines.proofs.Texts.{first_digit, digit_in, not_figures, not-both}
 
 figures_once : (y z : ℤ) (t : List ℕ) → Figures y t → Figures z t → y ≡ z
@@ -46,34 +46,19 @@ writes_once (Code c) (Code d) t h k = ap Code (same_letters c d (h ∙ sym k))
 writes_once (Code c) (YesNo b) t h k = absurd k
 writes_once (YesNo b) d t h k = absurd h
 
--- the first text and the rest of a split line
-module _ (c d : Full) (line t u v w : List ℕ) (h : line ≡ t ++ 44 ∷ u) (k : line ≡ v ++ 44 ∷ w) (x : Writes c t) (y : Writes d v) where
-  long : length t ≡ length v
-  long = sym (at_comma t u (plain c t x)) ∙ ap (before 44) (sym h ∙ k) ∙ at_comma v w (plain d v y)
-
-  fronts : t ≡ v
-  fronts = sym (take_at t (44 ∷ u) (length t) refl) ∙ ap (take (length t)) (sym h ∙ k) ∙ take_at v (44 ∷ w) (length t) (sym long)
-
-  backs : u ≡ w
-  backs = sym (after_comma t u) ∙ ap (drop (suc (length t))) (sym h ∙ k) ∙ ap (λ n. drop (suc n) (v ++ 44 ∷ w)) long ∙ after_comma v w
-
-means_same : (r s : List Full) (line line' : List ℕ) → line ≡ line' → Means r line → Means s line' → r ≡ s
-means_same [] s line line' e h k = absurd h
-means_same (c ∷ cs) [] line line' e h k = absurd k
-means_same (c ∷ []) (d ∷ []) line line' e h k = ap (λ x. x ∷ []) (writes_once c d line h (subst (Writes d) (sym e) k))
-means_same (c ∷ []) (d ∷ f ∷ ds) line line' e h k =
-    absurd (omega (arith, means_count (c ∷ []) line h, means_count (d ∷ f ∷ ds) line' k, ap commas e))
-means_same (c ∷ g ∷ cs) (d ∷ []) line line' e h k =
-    absurd (omega (arith, means_count (d ∷ []) line' k, means_count (c ∷ g ∷ cs) line h, ap commas e))
-means_same (c ∷ g ∷ cs) (d ∷ f ∷ ds) line line' e h k =
-    let front = fronts c d line h.0 h.1 k.0 k.1 h.2 (e ∙ k.2) h.3 k.3 in
-    let back = backs c d line h.0 h.1 k.0 k.1 h.2 (e ∙ k.2) h.3 k.3 in
-    let one = writes_once c d h.0 h.3 (subst (Writes d) (sym front) k.3) in
-    let rest = means_same (g ∷ cs) (f ∷ ds) h.1 k.1 back h.4 k.4 in
+texts_once : (r s : List Full) (ts : List (List ℕ)) → AllZip Writes r ts → AllZip Writes s ts → r ≡ s
+texts_once [] [] ts w v = refl
+texts_once [] (d ∷ ds) [] w v = absurd v
+texts_once [] (d ∷ ds) (t ∷ ts) w v = absurd w
+texts_once (c ∷ cs) s [] w v = absurd w
+texts_once (c ∷ cs) [] (t ∷ ts) w v = absurd v
+texts_once (c ∷ cs) (d ∷ ds) (t ∷ ts) w v =
+    let one = writes_once c d t w.0 v.0 in
+    let rest = texts_once cs ds ts w.1 v.1 in
     λ i. one i ∷ rest i
 
 pub means_once : (line : List ℕ) (r s : List Full) → Means r line → Means s line → r ≡ s
-means_once line r s h k = means_same r s line line refl h k
+means_once line r s h k = texts_once r s (texts line) (cells_from r line h) (cells_from s line k)
 
 pub read_once : (text : List ℕ) (at : ℕ) (old : List Full) (a b : Result Answer LineRefusal) (r s : List Full) (m n : ℕ) → Read text at old a r m → Read text at old b s n → (a ≡ b) × (r ≡ s) × (m ≡ n)
 read_once text at old (Ok Row) (Ok Row) r s m n h k = (refl, means_once _ r s h.1 k.1, h.2 ∙ sym k.2)

@@ -1,7 +1,8 @@
 -- What is printed of a row, cell after cell, and that reading undoes it.
 use Rattle.std.proofs.Common.{◌≡◌, ℕ, suc, ◌+◌, ◌-◌, ◌*◌, ◌^◌, ◌<◌, true, List, [], ◌∷◌, ◌++◌, length, get_or, take, drop, ℤ, pos, negsuc, Ok, decimal, fold, sym, refl, ap, ◌∙◌, subst, ⊎_elim, append_assoc, arith, length-append, length-take, rules}
 use Rattle.std.specs.Fmt.{signed_decimal}
-use Rattle.std.specs.List.{AllByRecursion}
+use Rattle.std.specs.List.{All}
+use Rattle.std.proofs.lemmas.List.Elements.{All-nil, All-cons, All-head, All-tail}
 use Rattle.std.specs.Str.{all_ascii_digits}
 use Rattle.std.proofs.lemmas.Fmt.{decimal_digit, length-decimal-le, decimal_nonempty, first_decimal, digits_decimal, digits_value-decimal, decimal-digits_value}
 use Rattle.std.proofs.lemmas.List.{take_more, take_at, drop_at}
@@ -83,10 +84,11 @@ cell_only (Code c) t h = tt
 cell_only (YesNo b) t h = h
 
 -- the same of a row
-pub row_means : (r : List Full) → 0 < length r → AllByRecursion Writable r → Means r (row_text r)
+pub row_means : (r : List Full) → 0 < length r → All Writable r → Means r (row_text r)
 row_means [] some h = absurd (omega arith)
-row_means (c ∷ []) some h = cell_means c h.0
-row_means (c ∷ d ∷ ds) some h = (full_text c, row_text (d ∷ ds), refl, cell_means c h.0, row_means (d ∷ ds) (omega arith) h.1)
+row_means (c ∷ []) some h = cell_means c (All-head Writable c [] h)
+row_means (c ∷ d ∷ ds) some h =
+    (full_text c, row_text (d ∷ ds), refl, cell_means c (All-head Writable c (d ∷ ds) h), row_means (d ∷ ds) (omega arith) (All-tail Writable c (d ∷ ds) h))
 
 pub row_prints : (r : List Full) (line : List ℕ) → Means r line → row_text r ≡ line
 row_prints [] line k = absurd k
@@ -94,12 +96,12 @@ row_prints (c ∷ []) line k = cell_prints c line k
 row_prints (c ∷ d ∷ ds) line k =
     ap (λ t. t ++ 44 ∷ row_text (d ∷ ds)) (cell_prints c k.0 k.3) ∙ ap (λ u. k.0 ++ 44 ∷ u) (row_prints (d ∷ ds) k.1 k.4) ∙ sym k.2
 
-all_only : (r : List Full) (line : List ℕ) → Means r line → AllByRecursion Writable r
-all_only [] line k = tt
-all_only (c ∷ []) line k = (cell_only c line k, tt)
-all_only (c ∷ d ∷ ds) line k = (cell_only c k.0 k.3, all_only (d ∷ ds) k.1 k.4)
+all_only : (r : List Full) (line : List ℕ) → Means r line → All Writable r
+all_only [] line k = All-nil Writable
+all_only (c ∷ []) line k = All-cons Writable c [] (cell_only c line k) (All-nil Writable)
+all_only (c ∷ d ∷ ds) line k = All-cons Writable c (d ∷ ds) (cell_only c k.0 k.3) (all_only (d ∷ ds) k.1 k.4)
 
-pub row_only : (r : List Full) (line : List ℕ) → Means r line → (0 < length r) × AllByRecursion Writable r
+pub row_only : (r : List Full) (line : List ℕ) → Means r line → (0 < length r) × All Writable r
 row_only r line k = (omega (arith, means_count r line k), all_only r line k)
 
 -- no line that stands for a row has a line feed
@@ -111,7 +113,7 @@ one_line (c ∷ d ∷ ds) line k =
     let u = one_line (d ∷ ds) k.1 k.4 in
     omega (arith, ap (before 10) k.2, ap length k.2, before-append 10 k.0 (44 ∷ k.1) t, length-append k.0 (44 ∷ k.1))
 
-pub row_reads : (r old : List Full) (front rest : List ℕ) → 0 < length r → AllByRecursion Writable r → length old ≡ length r → Read (front ++ (row_text r ++ 10 ∷ rest)) (length front) old (Ok Row) r (length front + length (row_text r) + 1)
+pub row_reads : (r old : List Full) (front rest : List ℕ) → 0 < length r → All Writable r → length old ≡ length r → Read (front ++ (row_text r ++ 10 ∷ rest)) (length front) old (Ok Row) r (length front + length (row_text r) + 1)
 row_reads r old front rest some h same =
     let line = row_text r in
     let text = front ++ (line ++ 10 ∷ rest) in

@@ -1,108 +1,83 @@
--- A line splits at its commas in one way.
-use Rattle.std.proofs.Common.{◌≡◌, ℕ, suc, ◌+◌, ◌-◌, ◌<◌, ◌≤◌, Bool, true, false, cond, not, eqb, List, [], ◌∷◌, ◌++◌, length, take, drop, sym, refl, ap, ◌∙◌, subst, append_assoc, arith, length-drop}
-use Rattle.std.proofs.lemmas.List.{take_at, take_all, drop-drop}
-use Rattle.std.proofs.lemmas.Bool.{eqb-true}
+-- A line as the list of the texts between its commas.
+use Rattle.std.proofs.Common.{◌≡◌, ℕ, zero, suc, ◌+◌, ◌<◌, Bool, true, false, eqb, List, [], ◌∷◌, ◌++◌, length, get_or, take, set, sym, refl, ap, ◌∙◌, subst, arith}
+use Rattle.std.specs.Bool.{MatchBool}
+use Rattle.std.specs.List.{All, AllWithin, AllZip, HoldsAt, enumerate_from, slice_split, join_with_byte}
+use Rattle.std.proofs.lemmas.List.Splits.{slice_split_none, slice_split_at, length-slice_split, join_with_byte-slice_split}
+use Rattle.std.proofs.lemmas.Bool.{not-true}
+use Rattle.std.proofs.lemmas.List.Sums.{prefix_len_passes}
+use Rattle.std.proofs.lemmas.List.{take_more, take_more_set}
+use Rattle.std.proofs.lemmas.List.FromFn.{length-enumerate_from, get_or-enumerate_from}
+use Rattle.std.proofs.lemmas.Slice.Zip.{AllZip-long, all_zipped_more}
 use Rattle.cells.specs.declared.full.Full.{Full}
-use Rattle.lines.specs.Written.{Writes, Means, commas, before}
-use Rattle.lines.proofs.Texts.{lacks_parts, before-append, text_lacks}
+use Rattle.lines.specs.Written.{Writes, Means, commas, unlike}
+use Rattle.lines.proofs.Texts.{text_lacks}
+
+abbrev pub texts : List ℕ → List (List ℕ)
+texts line = slice_split (λ b. eqb b 44) line
+
+pub length-texts : (line : List ℕ) → length (texts line) ≡ commas line + 1
+length-texts line = length-slice_split (λ b. eqb b 44) line
 
 -- no cell's text has a comma
-pub plain : (c : Full) (t : List ℕ) → Writes c t → before 44 t ≡ length t
-plain c t w = text_lacks 44 refl (λ e. omega arith) c t w
+plain : (c : Full) (t : List ℕ) → Writes c t → All (λ b. eqb b 44 ≡ false) t
+plain c t w k d h = not-true _ (prefix_len_passes (unlike 44) t k d (omega (arith, text_lacks 44 refl (λ e. omega arith) c t w)))
 
-pub no_commas : (t : List ℕ) → before 44 t ≡ length t → commas t ≡ 0
-no_commas [] h = refl
-no_commas (b ∷ t) h = let p = lacks_parts 44 b t h in ap (λ x. cond x 1 0 + commas t) p.0 ∙ omega (arith, no_commas t p.1)
+-- the row that a line stands for has a cell for each text
+pub cells_from : (r : List Full) (line : List ℕ) → Means r line → AllZip Writes r (texts line)
+cells_from [] line k = absurd k
+cells_from (c ∷ []) line k = subst (AllZip Writes (c ∷ [])) (sym (slice_split_none (λ b. eqb b 44) line (plain c line k))) (k, tt)
+cells_from (c ∷ d ∷ ds) line k =
+    subst (AllZip Writes (c ∷ d ∷ ds)) (sym (ap texts k.2 ∙ slice_split_at (λ b. eqb b 44) k.0 44 k.1 (plain c k.0 k.3) refl)) (k.3, cells_from (d ∷ ds) k.1 k.4)
 
--- the first comma
-pub at_comma : (t u : List ℕ) → before 44 t ≡ length t → before 44 (t ++ 44 ∷ u) ≡ length t
-at_comma t u h = before-append 44 t (44 ∷ u) h ∙ omega arith
+joined : (r : List Full) (ts : List (List ℕ)) → 0 < length ts → AllZip Writes r ts → Means r (join_with_byte 44 ts)
+joined r [] some w = absurd (omega arith)
+joined [] (t ∷ ts) some w = absurd w
+joined (c ∷ []) (t ∷ []) some w = w.0
+joined (c ∷ d ∷ ds) (t ∷ []) some w = absurd w.1
+joined (c ∷ []) (t ∷ u ∷ us) some w = absurd w.1
+joined (c ∷ d ∷ ds) (t ∷ u ∷ us) some w = (t, join_with_byte 44 (u ∷ us), refl, w.0, joined (d ∷ ds) (u ∷ us) (omega arith) w.1)
 
-pub after_comma : (t u : List ℕ) → drop (suc (length t)) (t ++ 44 ∷ u) ≡ u
-after_comma [] u = refl
-after_comma (b ∷ t) u = after_comma t u
-
--- the split at the first comma
-pub record Split (bs : List ℕ) (m : ℕ) : Type 0 where
-  pub parts : bs ≡ take m bs ++ 44 ∷ drop (suc m) bs
-  pub count : commas bs ≡ 1 + commas (drop (suc m) bs)
-
-split_first : (b : ℕ) (bs : List ℕ) → (e : Bool) → eqb b 44 ≡ e → (before 44 bs < length bs → Split bs (before 44 bs)) → cond (not e) (1 + before 44 bs) 0 < suc (length bs) → Split (b ∷ bs) (cond (not e) (1 + before 44 bs) 0)
-split_first b bs true e more h = record { parts = ap (λ x. x ∷ bs) (eqb-true b 44 e); count = ap (λ x. cond x 1 0 + commas bs) e }
-split_first b bs false e more h =
-    let s = more (omega arith) in
-    let one : 1 + before 44 bs ≡ suc (before 44 bs) = omega arith in
-    subst (Split (b ∷ bs)) (sym one) (record { parts = ap (λ x. b ∷ x) s.parts; count = ap (λ x. cond x 1 0 + commas bs) e ∙ omega (arith, s.count) })
-
-pub split : (bs : List ℕ) → before 44 bs < length bs → Split bs (before 44 bs)
-split [] h = absurd (omega arith)
-split (b ∷ bs) h = split_first b bs (eqb b 44) refl (split bs) h
-
--- rows of what follows the first comma, and rows of the whole
-pub step_on : (c : Full) (r : List Full) (bs : List ℕ) → before 44 bs < length bs → Writes c (take (before 44 bs) bs) → Means r (drop (suc (before 44 bs)) bs) → Means (c ∷ r) bs
-step_on c [] bs h w k = absurd k
-step_on c (d ∷ ds) bs h w k = (take (before 44 bs) bs, drop (suc (before 44 bs)) bs, (split bs h).parts, w, k)
-
-pub step_back : (s : List Full) (bs : List ℕ) → before 44 bs < length bs → Means s bs → (r : List Full) × Means r (drop (suc (before 44 bs)) bs)
-step_back [] bs h k = absurd k
-step_back (c ∷ []) bs h k = absurd (omega (arith, plain c bs k))
-step_back (c ∷ d ∷ ds) bs h k =
-    let m : before 44 bs ≡ length k.0 = ap (before 44) k.2 ∙ at_comma k.0 k.1 (plain c k.0 k.3) in
-    let u : k.1 ≡ drop (suc (before 44 bs)) bs = sym (ap (λ x. drop (suc x) bs) m ∙ ap (drop (suc (length k.0))) k.2 ∙ after_comma k.0 k.1) in
-    (d ∷ ds, subst (Means (d ∷ ds)) u k.4)
-
--- where no cell has the first text
-pub stuck : (s : List Full) (bs : List ℕ) → ((c : Full) → Writes c (take (before 44 bs) bs) → ⊥) → Means s bs → ⊥
-stuck [] bs bad k = k
-stuck (c ∷ []) bs bad k =
-    let m = plain c bs k in
-    bad c (subst (Writes c) (sym (take_all (before 44 bs) bs (omega arith))) k)
-stuck (c ∷ d ∷ ds) bs bad k =
-    let m : before 44 bs ≡ length k.0 = ap (before 44) k.2 ∙ at_comma k.0 k.1 (plain c k.0 k.3) in
-    let t : k.0 ≡ take (before 44 bs) bs = sym (ap (λ x. take x bs) m ∙ ap (take (length k.0)) k.2 ∙ take_at k.0 (44 ∷ k.1) (length k.0) refl) in
-    bad c (subst (Writes c) t k.3)
-
-commas-append : (t u : List ℕ) → commas (t ++ u) ≡ commas t + commas u
-commas-append [] u = omega arith
-commas-append (b ∷ t) u = omega (arith, commas-append t u)
+pub means_from : (r : List Full) (line : List ℕ) → AllZip Writes r (texts line) → Means r line
+means_from r line w = subst (Means r) (join_with_byte-slice_split 44 line) (joined r (texts line) (omega (arith, length-texts line)) w)
 
 -- a row has a cell more than its line has commas
 pub means_count : (s : List Full) (line : List ℕ) → Means s line → commas line + 1 ≡ length s
-means_count [] line k = absurd k
-means_count (c ∷ []) line k = omega (arith, no_commas line (plain c line k))
-means_count (c ∷ d ∷ ds) line k =
-    omega (arith, ap commas k.2, commas-append k.0 (44 ∷ k.1), no_commas k.0 (plain c k.0 k.3), means_count (d ∷ ds) k.1 k.4)
+means_count s line k = sym (length-texts line) ∙ AllZip-long Writes s (texts line) (cells_from s line k)
 
--- the line is known to stand for the cells so far and what the rest stands for, and for nothing else
-pub record Sofar (line : List ℕ) (done : List Full) (rest : List ℕ) : Type 0 where
-  pub onward : (r : List Full) → Means r rest → Means (done ++ r) line
-  pub back : (s : List Full) → Means s line → (r : List Full) × Means r rest
+-- where each text is a cell's, the line stands for these cells; where one is none's, for no row
+each_row : (ts : List (List ℕ)) → AllWithin (λ t. (c : Full) × Writes c t) ts 0 (length ts) → (r : List Full) × AllZip Writes r ts
+each_row [] h = ([], tt)
+each_row (t ∷ ts) h =
+    let c = h 0 t (omega arith) (omega arith) in
+    let r = each_row ts (λ k d _ l. h (suc k) d (omega arith) (omega arith)) in
+    (c.0 ∷ r.0, (c.1, r.1))
 
-pub sofar_none : (line : List ℕ) → Sofar line [] line
-sofar_none line = record { onward = λ r k. k; back = λ s k. (s, k) }
+pub bad_text : (r : List Full) (ts : List (List ℕ)) (k : ℕ) → k < length ts → HoldsAt (λ t. (c : Full) → Writes c t → ⊥) ts k → AllZip Writes r ts → ⊥
+bad_text r [] k l bad w = absurd (omega arith)
+bad_text [] (t ∷ ts) k l bad w = w
+bad_text (c ∷ cs) (t ∷ ts) zero l bad w = bad t c w.0
+bad_text (c ∷ cs) (t ∷ ts) (suc k) l bad w = bad_text cs ts k (omega arith) bad w.1
 
-pub sofar_more : (line : List ℕ) (done : List Full) (rest : List ℕ) (c : Full) → Sofar line done rest → before 44 rest < length rest → Writes c (take (before 44 rest) rest) → Sofar line (done ++ c ∷ []) (drop (suc (before 44 rest)) rest)
-sofar_more line done rest c s h w = record {
-  onward = λ r k. subst (λ l. Means l line) (sym (append_assoc done (c ∷ []) r)) (s.onward (c ∷ r) (step_on c r rest h w k));
-  back = λ q k. let p = s.back q k in step_back p.0 rest h p.1;
-}
+pub told_by_texts : (b : Bool) (line : List ℕ) → MatchBool b (AllWithin (λ t. (c : Full) × Writes c t) (texts line) 0 (length (texts line))) ((k : ℕ) × (k < length (texts line)) × HoldsAt (λ t. (c : Full) → Writes c t → ⊥) (texts line) k) → MatchBool b ((row : List Full) × Means row line) ((row : List Full) → Means row line → ⊥)
+told_by_texts true line h = let r = each_row (texts line) h in (r.0, means_from r.0 line r.1)
+told_by_texts false line h = λ row k. bad_text row (texts line) h.0 h.1 h.2 (cells_from row line k)
 
-pub sofar_all : (line : List ℕ) (done : List Full) (rest : List ℕ) (c : Full) → Sofar line done rest → before 44 rest ≡ length rest → Writes c (take (before 44 rest) rest) → Means (done ++ c ∷ []) line
-sofar_all line done rest c s h w = s.onward (c ∷ []) (subst (Writes c) (take_all (before 44 rest) rest (omega arith)) w)
+-- the row of a line has a cell for the text at a place
+pub cell_at : (r : List Full) (ts : List (List ℕ)) (k : ℕ) (t : List ℕ) → AllZip Writes r ts → k < length ts → t ≡ get_or ts k t → (c : Full) × Writes c t
+cell_at r [] k t w l e = absurd (omega arith)
+cell_at [] (u ∷ us) k t w l e = absurd w
+cell_at (c ∷ cs) (u ∷ us) zero t w l e = (c, subst (Writes c) (sym e) w.0)
+cell_at (c ∷ cs) (u ∷ us) (suc k) t w l e = cell_at cs us k t w.1 (omega arith) e
 
--- the text from one place of a line to the next comma or the end
-pub record Here (line : List ℕ) (from to : ℕ) : Type 0 where
-  pub size : to - from ≡ before 44 (drop from line)
-  pub last : to ≡ length line → before 44 (drop from line) ≡ length (drop from line)
-  pub more : (to ≡ length line → ⊥) → before 44 (drop from line) < length (drop from line)
-  pub next : drop (suc (before 44 (drop from line))) (drop from line) ≡ drop (to + 1) line
+-- what one turn of a loop over the texts brings
+pub turn : (ts : List (List ℕ)) (i n : ℕ) (t : List ℕ) → (i < length (enumerate_from 0 ts)) × ((n, t) ≡ get_or (enumerate_from 0 ts) i (n, t)) → (i < length ts) × (n ≡ i) × (t ≡ get_or ts i t)
+turn ts i n t h =
+    let l : i < length ts = omega (arith, h.0, length-enumerate_from 0 ts) in
+    let e = h.1 ∙ get_or-enumerate_from 0 ts i (n, t) l in
+    (l, ap (λ p. p.0) e ∙ omega arith, ap (λ p. p.1) e)
 
-pub here : (line : List ℕ) (from to : ℕ) → to ≡ from + before 44 (drop from line) → from ≤ to → to ≤ length line → Here line from to
-here line from to e l m =
-    let n = length-drop from line in
-    record {
-      size = omega arith;
-      last = λ z. omega arith;
-      more = λ z. omega arith;
-      next = drop-drop (suc (before 44 (drop from line))) from line ∙ ap (λ x. drop x line) (omega arith);
-    }
+pub one_more : (ts : List (List ℕ)) (row : List Full) (i n m : ℕ) (c : Full) (t : List ℕ) → AllZip Writes (take i row) (take i ts) → (i < length ts) × (n ≡ i) × (t ≡ get_or ts i t) → i < length row → m ≡ i + 1 → Writes c t → AllZip Writes (take m (set row n c)) (take m ts)
+one_more ts row i n m c t so_far h room e w =
+    let cells : take i row ++ c ∷ [] ≡ take m (set row n c) = sym (take_more_set row i c room) ∙ ap (λ k. take (i + 1) (set row k c)) (sym h.1) ∙ ap (λ k. take k (set row n c)) (sym e) in
+    let back : take i ts ++ t ∷ [] ≡ take m ts = ap (λ u. take i ts ++ u ∷ []) h.2 ∙ sym (take_more ts i t h.0) ∙ ap (λ k. take k ts) (sym e) in
+    subst (λ l. AllZip Writes l (take m ts)) cells (subst (AllZip Writes (take i row ++ c ∷ [])) back (all_zipped_more Writes (take i row) (take i ts) c t so_far w))

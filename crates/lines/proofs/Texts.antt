@@ -1,18 +1,20 @@
 -- What the bytes of a text tell of the cell that it stands for.
-use Rattle.std.proofs.Common.{◌≡◌, ℕ, suc, ◌+◌, ◌-◌, ◌<◌, ◌≤◌, Bool, true, false, cond, not, ◌&&◌, eqb, List, [], ◌∷◌, ◌++◌, length, get_or, take, drop, ℤ, pos, negsuc, sym, refl, ap, ◌∙◌, subst, arith}
+use Rattle.std.proofs.Common.{◌≡◌, ℕ, suc, ◌+◌, ◌<◌, ◌≤◌, Bool, true, false, cond, not, ◌&&◌, ◌||◌, ◌==◌, List, [], ◌∷◌, ◌++◌, length, get_or, drop, ℤ, pos, negsuc, sym, refl, ap, ◌∙◌, subst, arith}
 use Rattle.std.specs.Char.{is_ascii_alphabetic, is_ascii_alphanumeric, is_ascii_digit}
 use Rattle.std.specs.Str.{all_ascii_digits}
-use Rattle.std.proofs.lemmas.List.{at_drop_more}
-use Rattle.std.proofs.lemmas.Slice.{first_rest}
-use Rattle.std.proofs.lemmas.List.Sums.{prefix_len-le-length}
-use Rattle.std.proofs.lemmas.Bool.{and_parts, and_from, both_ways, ne_eqb}
+use Rattle.std.proofs.lemmas.List.{at_drop_more, nil_from_length}
+use Rattle.std.proofs.lemmas.List.Folds.{prefix_len-append}
+use Rattle.std.proofs.lemmas.Bool.{and_parts, and_from, both_ways, ne_eqb, eq-eqb, cond-true}
 use Rattle.std.proofs.lemmas.Bool.Decides.{nat_tests}
 use Rattle.cells.specs.Codes.{letters, is_code, all_alnum}
 use Rattle.cells.specs.declared.full.Full.{Full}
 use Rattle.cells.specs.declared.full.Full.TheVariants.{Missing, Number, Code, YesNo}
 use Rattle.cells.proofs.Packing.{named}
-use Rattle.lines.specs.Firsts.{is_figure}
 use Rattle.lines.specs.Written.{Numeral, Figures, Writes, value, unlike, before}
+
+-- a digit or a minus (45)
+abbrev pub is_figure : ℕ → Bool
+is_figure b = is_ascii_digit b || b == 45
 
 -- the first byte of a numeral is a digit
 pub first_digit : (t : List ℕ) → Numeral t → is_ascii_digit (get_or t 0 0) ≡ true
@@ -42,10 +44,15 @@ no_cell t some f n (Number z) k = f z k
 no_cell t some f n (Code c) k = n (ap is_code (sym k) ∙ c.named)
 no_cell t some f n (YesNo b) k = k
 
--- after a minus
-pub minus : (t : List ℕ) → 0 < length t → get_or t 0 0 ≡ 45 → t ≡ 45 ∷ take (length t - 1) (drop 1 t)
-minus t h e = first_rest t 0 h ∙ ap (λ x. x ∷ take (length t - 1) (drop 1 t)) e
+-- a byte that begins a number only
+pub only_number : (t : List ℕ) → is_figure (get_or t 0 0) ≡ true → ((z : ℤ) → Figures z t → ⊥) → (c : Full) → Writes c t → ⊥
+only_number t u f c w = no_cell t (λ z. both_ways _ (ap (λ x. is_figure (get_or x 0 0)) (nil_from_length t z)) u) f (not_code t (not_both_figure (get_or t 0 0) u)) c w
 
+-- a byte that begins neither
+pub no_first : (t : List ℕ) → 1 ≤ length t → is_ascii_alphabetic (get_or t 0 0) ≡ false → is_figure (get_or t 0 0) ≡ false → (c : Full) → Writes c t → ⊥
+no_first t some u v c w = no_cell t (λ z. omega arith) (not_figures t v) (not_code t u) c w
+
+-- after a minus
 pub no_minus : (t ds : List ℕ) → t ≡ 45 ∷ ds → ((n : ℕ) → Numeral ds → value ds ≡ suc n → ⊥) → (z : ℤ) → Figures z t → ⊥
 no_minus t ds e bad (pos n) k = let f = first_digit t k.0 in omega (arith, digit_in (get_or t 0 0) f, ap (λ x. get_or x 0 0) e)
 no_minus t ds e bad (negsuc n) k =
@@ -63,18 +70,8 @@ not_digits t i l bad e n = both_ways (all_ascii_digits t) (sym e ∙ digits_step
 lacks_more : (x b : ℕ) (t : List ℕ) → (b ≡ x → ⊥) → before x t ≡ length t → before x (b ∷ t) ≡ length (b ∷ t)
 lacks_more x b t e h = ap (λ y. cond (not y) (1 + before x t) 0) (ne_eqb b x e) ∙ omega arith
 
-lacks_first : (e : Bool) (m n : ℕ) → m ≤ n → cond (not e) (1 + m) 0 ≡ suc n → (e ≡ false) × (m ≡ n)
-lacks_first true m n l h = absurd (omega arith)
-lacks_first false m n l h = (refl, omega arith)
-
-pub lacks_parts : (x b : ℕ) (t : List ℕ) → before x (b ∷ t) ≡ length (b ∷ t) → (eqb b x ≡ false) × (before x t ≡ length t)
-lacks_parts x b t h = lacks_first (eqb b x) (before x t) (length t) (prefix_len-le-length (unlike x) t) h
-
 pub before-append : (x : ℕ) (t u : List ℕ) → before x t ≡ length t → before x (t ++ u) ≡ length t + before x u
-before-append x [] u h = omega arith
-before-append x (b ∷ t) u h =
-    let p = lacks_parts x b t h in
-    ap (λ y. cond (not y) (1 + before x (t ++ u)) 0) p.0 ∙ omega (arith, before-append x t u p.1)
+before-append x t u h = prefix_len-append (unlike x) t u ∙ cond-true _ _ _ (eq-eqb _ _ h)
 
 alnum_lacks : (x : ℕ) → is_ascii_alphanumeric x ≡ false → (t : List ℕ) → all_alnum t ≡ true → before x t ≡ length t
 alnum_lacks x o [] h = refl

@@ -1,6 +1,5 @@
 -- What holds of all texts and rows.
-use Rattle.std.specs.Prelude.{◌≡◌, ℕ, ◌+◌, ◌<◌, List, ◌∷◌, ◌++◌, length, Ok, Result}
-use Rattle.std.specs.List.{AllByRecursion}
+use Rattle.std.specs.Prelude.{◌≡◌, ℕ, ◌+◌, ◌<◌, List, ◌∷◌, ◌++◌, length, Ok, Result, All}
 use Rattle.cells.specs.declared.full.Full.{Full}
 use Rattle.lines.specs.declared.reader.Answer.{Answer}
 use Rattle.lines.specs.declared.reader.Answer.TheVariants.{Row}
@@ -21,10 +20,10 @@ pub record OneMeaning : Type 0 where
 -- printing a row and reading it undo one another
 pub record ReadsBack : Type 0 where
   -- what is printed of a row that text can write stands for the row
-  pub means : (row : List Full) → 0 < length row → AllByRecursion Writable row → Means row (row_text row)
+  pub means : (row : List Full) → 0 < length row → All Writable row → Means row (row_text row)
   -- no line stands for another row
-  pub only : (row : List Full) (line : List ℕ) → Means row line → (0 < length row) × AllByRecursion Writable row
+  pub only : (row : List Full) (line : List ℕ) → Means row line → (0 < length row) × All Writable row
   -- every line that stands for a row is what is printed of it
   pub prints : (row : List Full) (line : List ℕ) → Means row line → row_text row ≡ line
   -- where such a row is printed in a text, with a line feed (10) behind it, a reader reads it and goes on behind the line feed
-  pub reads : (row old : List Full) (front rest : List ℕ) → 0 < length row → AllByRecursion Writable row → length old ≡ length row → Read (front ++ (row_text row ++ 10 ∷ rest)) (length front) old (Ok Row) row (length front + length (row_text row) + 1)
+  pub reads : (row old : List Full) (front rest : List ℕ) → 0 < length row → All Writable row → length old ≡ length row → Read (front ++ (row_text row ++ 10 ∷ rest)) (length front) old (Ok Row) row (length front + length (row_text row) + 1)

@@ -1,6 +1,5 @@
 -- The definitions that the contracts cite.
 pub mod Written
-pub mod Firsts
 pub mod Rows
 pub mod Printed
 pub mod Laws

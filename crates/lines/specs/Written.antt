@@ -1,5 +1,5 @@
 -- What text stands for a cell, what line for a row, and where a line lies in a text (docs/RULES.md, "Lines of text").
-use Rattle.std.specs.Prelude.{◌≡◌, ℕ, suc, ◌+◌, ◌-◌, ◌*◌, ◌≤◌, min, Bool, true, cond, not, List, [], ◌∷◌, ◌++◌, length, take, drop, ℤ, pos, negsuc, fold, ◌==◌, nat_lt, slice_index_or}
+use Rattle.std.specs.Prelude.{◌≡◌, ℕ, suc, ◌+◌, ◌-◌, ◌*◌, ◌≤◌, min, Bool, true, cond, not, List, [], ◌∷◌, ◌++◌, length, take, drop, ℤ, pos, negsuc, fold, ◌==◌, nat_lt, slice_index_or, count_by}
 use Rattle.std.specs.List.{prefix_len}
 use Rattle.std.specs.Str.{all_ascii_digits}
 use Rattle.cells.specs.Codes.{letters}
@@ -41,8 +41,7 @@ Means (c ∷ d ∷ cs) line = (t : List ℕ) × (u : List ℕ) × (line ≡ t ++
 
 -- how many commas a line has
 abbrev pub commas : List ℕ → ℕ
-commas [] = 0
-commas (b ∷ bs) = cond (b == 44) 1 0 + commas bs
+commas line = count_by (λ b. b == 44) line
 
 -- x is not the byte b
 abbrev pub unlike : ℕ → ℕ → Bool

@@ -1,7 +1,6 @@
 // The cell that a text stands for.
 ghost use Rattle.std.specs.Prelude.{◌≡◌, ◌^◌, ◌<◌, ℤ, Decides, MatchOption};
 ghost use Rattle.cells.specs.declared.full.Full.{Full as Cell};
-ghost use Rattle.lines.specs.Firsts.{Begins};
 ghost use Rattle.lines.specs.Written.{Sized, Numeral, Figures, Writes, value};
 
 use cells::{Code, Full};
@@ -10,10 +9,10 @@ use cells::{Code, Full};
 fn sized(text: &[u8]) -> bool
     ensures { Decides result (Sized text.now) }
 {
-    if text.len() < 1 || text.len() > 12 {
-        return false;
+    match text {
+        [] | [b'0', _, ..] => false,
+        _ => text.len() <= 12,
     }
-    text[0] != b'0' || text.len() == 1
 }
 
 // The number that the digits of such a text write.
@@ -28,7 +27,7 @@ fn digits(text: &[u8]) -> Option<u64>
         if !b.is_ascii_digit() {
             return None;
         }
-        n = n * 10 + (*b - b'0') as u64;
+        n = n * 10 + u64::from(*b - b'0');
     }
     Some(n)
 }
@@ -37,35 +36,9 @@ fn digits(text: &[u8]) -> Option<u64>
 fn number(text: &[u8]) -> Option<i64>
     ensures { MatchOption result ((z : ℤ) → Figures z text.now → ⊥) (λ z. Figures z text.now) }
 {
-    if text.len() > 0 && text[0] == b'-' {
-        match digits(&text[1..]) {
-            Some(0) => None,
-            Some(n) => Some(-(n as i64)),
-            None => None,
-        }
-    } else {
-        match digits(text) {
-            Some(n) => Some(n as i64),
-            None => None,
-        }
-    }
-}
-
-// What a first character begins.
-#[derive(Clone, Copy)]
-enum First {
-    Letter,
-    Figure,
-    Other,
-}
-
-fn begins(b: u8) -> First
-    ensures { Begins result b }
-{
-    match b {
-        b'A'..=b'Z' | b'a'..=b'z' => First::Letter,
-        b'0'..=b'9' | b'-' => First::Figure,
-        _ => First::Other,
+    match text {
+        [b'-', rest @ ..] => digits(rest).filter(|n| *n != 0).map(|n| -(n as i64)),
+        _ => digits(text).map(|n| n as i64),
     }
 }
 
@@ -73,18 +46,10 @@ fn begins(b: u8) -> First
 pub fn read_cell(text: &[u8]) -> Option<Full>
     ensures { MatchOption result ((c : Cell) → Writes c text.now → ⊥) (λ c. Writes c text.now) }
 {
-    if text.len() == 0 {
-        return Some(Full::Missing);
-    }
-    match begins(text[0]) {
-        First::Letter => match Code::new(text) {
-            Some(c) => Some(Full::Code(c)),
-            None => None,
-        },
-        First::Figure => match number(text) {
-            Some(z) => Some(Full::Number(z)),
-            None => None,
-        },
-        First::Other => None,
+    match text {
+        [] => Some(Full::Missing),
+        [b'A'..=b'Z' | b'a'..=b'z', ..] => Code::new(text).map(Full::Code),
+        [b'0'..=b'9' | b'-', ..] => number(text).map(Full::Number),
+        _ => None,
     }
 }

@@ -1,23 +1,19 @@
 // Holds a cursor that is set back unless what was read is accepted.
-ghost use Rattle.std.specs.Prelude.{◌≡◌, if◌then◌else◌};
+ghost use Rattle.std.specs.Prelude.{◌≡◌, unwrap_or};
 
 pub(crate) struct Guard<'a> {
     pub cursor: &'a mut usize,
-    pub start: usize,
-    pub accepted: bool,
+    // Where the cursor is set back to; nowhere, once the row is accepted.
+    pub start: Option<usize>,
 }
 
 impl Drop for Guard<'_> {
     fn drop(self)
-        ensures { self.exit.0.now ≡ (if self.entry.accepted then self.entry.cursor.now else self.entry.start) }
+        ensures { self.exit.0.now ≡ unwrap_or self.entry.start self.entry.cursor.now }
     {
-        if !self.accepted {
-            *self.cursor = self.start;
+        let Guard { cursor, start } = self;
+        if let Some(start) = start {
+            *cursor = start;
         }
-        let Guard {
-            cursor: _,
-            start: _,
-            accepted: _,
-        } = self;
     }
 }

@@ -2,15 +2,11 @@
 ghost use Rattle.lines.specs.Laws.{OneMeaning, ReadsBack};
 
 // A text stands for one cell at most and a line for one row, and a reader has one answer.
-pub fn one_meaning() -> u8
+pub fn one_meaning()
     ensures { OneMeaning }
-{
-    0
-}
+{}
 
 // Printing a row and reading it undo one another.
-pub fn printed_reads_back() -> u8
+pub fn printed_reads_back()
     ensures { ReadsBack }
-{
-    0
-}
+{}

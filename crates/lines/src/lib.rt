@@ -10,5 +10,5 @@ mod reader;
 
 pub use cell::read_cell;
 pub use laws::{one_meaning, printed_reads_back};
-pub use print::row_text;
+pub use print::{Line, row_text};
 pub use reader::{Answer, LineRefusal, line_end, pass_line, read_row};

@@ -1,29 +1,35 @@
 // Prints a row as the line that stands for it.
-ghost use Rattle.std.specs.Prelude.{◌≡◌, ◌∷◌, ◌++◌, IfOk, string_bytes, OnOk};
-ghost use Rattle.cells.specs.Printed.{full_text};
+ghost use Rattle.std.specs.Prelude.{◌≡◌, IfOk, Some, string_bytes};
 ghost use Rattle.lines.specs.Printed.{row_text};
 
 use cells::Full;
 use std::alloc::{AllocError, Global};
+use std::fmt;
 
-// Adds a comma and what is printed of a cell.
-fn add(heap: Global, text: &mut String, cell: Full) -> Result<(), AllocError>
-    ensures { OnOk result (string_bytes text.new ≡ string_bytes text.old ++ 44 ∷ full_text cell) }
-{
-    let part = format!(in heap; ",{cell}")?;
-    text.push_str(part.as_str())
+// A row, printed cell after cell, with commas between.
+#[derive(Clone, Copy)]
+pub struct Line<'a> {
+    pub cells: &'a [Full],
 }
 
-// What is printed of the cells of a row, with commas between.
+impl fmt::Display for Line<'_> {
+    ghost output = { λ line. Some (row_text line.cells.now) };
+
+    fn fmt<W: fmt::Write>(&self, f: &mut fmt::Formatter<W>) -> fmt::Result {
+        let Some((first, rest)) = self.cells.split_first() else {
+            return Ok(());
+        };
+        f.write(*first)?;
+        for cell in rest {
+            write!(f, ",{cell}")?;
+        }
+        Ok(())
+    }
+}
+
+// What is printed of a row.
 pub fn row_text(heap: Global, row: &[Full]) -> Result<String, AllocError>
     ensures { IfOk result (λ s. string_bytes s ≡ row_text row.now) }
 {
-    if row.len() == 0 {
-        return Ok(String::new(heap));
-    }
-    let mut text = row[0].to_string(heap)?;
-    for i in 1..row.len() {
-        add(heap, &mut text, row[i])?;
-    }
-    Ok(text)
+    Line { cells: row }.to_string(heap)
 }

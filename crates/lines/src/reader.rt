@@ -1,14 +1,14 @@
 // Reads the lines of a text into rows.
-ghost use Rattle.std.specs.Prelude.{◌≡◌, ◌+◌, ◌≤◌, length, drop, Some};
+ghost use Rattle.std.specs.Prelude.{◌≡◌, ◌+◌, ◌<◌, ◌≤◌, length, drop, Some};
 ghost use Rattle.lines.specs.Rows.{Read, number_of, refusal_text};
-ghost use Rattle.lines.specs.Written.{before, passed};
+ghost use Rattle.lines.specs.Written.{before, behind, line_at, passed};
 
 use crate::guard::Guard;
-use crate::line::{count, fill, find, stands};
+use crate::line::{count, fill, stands};
 use cells::Full;
 use std::fmt;
 
-// A row was read, or no byte is left.
+// A row was read, or no byte is left. An answer is an enum, as those of a source and of a step.
 #[derive(Clone, Copy, PartialEq)]
 pub enum Answer {
     Row,
@@ -18,8 +18,8 @@ pub enum Answer {
 // The line has not as many cells as the row, or it has, and one of them is malformed.
 #[derive(Clone, Copy, PartialEq)]
 pub enum LineRefusal {
-    Miscounted,
-    Malformed,
+    Miscounted = 17,
+    Malformed = 18,
 }
 
 impl LineRefusal {
@@ -27,10 +27,7 @@ impl LineRefusal {
     pub fn number(self) -> u8
         ensures { result ≡ number_of self }
     {
-        match self {
-            LineRefusal::Miscounted => 17,
-            LineRefusal::Malformed => 18,
-        }
+        self as u8
     }
 }
 
@@ -45,6 +42,8 @@ impl fmt::Display for LineRefusal {
     }
 }
 
+// Text and cursor stay two parameters here and above: a struct of both would need a clause in each contract that the text stays, and the guard holds the cursor alone.
+
 // Fills the row with the cells of the line that begins at the cursor, and passes the line.
 // The line is judged before the row is filled, so that a refusal leaves the row as it was; the guard sets the cursor back then.
 pub fn read_row(text: &[u8], cursor: &mut usize, row: &mut [Full]) -> Result<Answer, LineRefusal>
@@ -56,20 +55,17 @@ pub fn read_row(text: &[u8], cursor: &mut usize, row: &mut [Full]) -> Result<Ans
     }
     let mut guard = Guard {
         cursor,
-        start,
-        accepted: false,
+        start: Some(start),
     };
-    let end = find(text, start, b'\n');
-    *guard.cursor = (end + 1).min(text.len());
-    let line = &text[start..end];
-    if count(line) + 1 != row.len() {
+    let line = take_line(text, guard.cursor);
+    if count(line) != row.len() {
         return Err(LineRefusal::Miscounted);
     }
     if !stands(line) {
         return Err(LineRefusal::Malformed);
     }
     fill(line, row);
-    guard.accepted = true;
+    guard.start = None;
     Ok(Answer::Row)
 }
 
@@ -78,11 +74,10 @@ pub fn line_end(text: &[u8], at: usize) -> usize
     ensures place { result ≡ at + before 10 (drop at text.now) }
     ensures within { (at ≤ result) × ((at ≤ length text.now → result ≤ length text.now)) }
 {
-    if at < text.len() {
-        find(text, at, b'\n')
-    } else {
-        at
-    }
+    let Some(rest) = text.get(at..) else {
+        return at;
+    };
+    at + rest.iter().position(|b| *b == b'\n').unwrap_or(rest.len())
 }
 
 // Passes the line that begins at the cursor, whatever it holds.
@@ -90,7 +85,18 @@ pub fn pass_line(text: &[u8], cursor: &mut usize)
     ensures { cursor.new ≡ passed text.now cursor.old }
 {
     if *cursor < text.len() {
-        let end = find(text, *cursor, b'\n');
-        *cursor = (end + 1).min(text.len());
+        take_line(text, cursor);
     }
+}
+
+// The line that begins at the cursor; the cursor moves behind it and its line feed.
+fn take_line<'a>(text: &'a [u8], cursor: &mut usize) -> &'a [u8]
+    requires { cursor.old < length text.now }
+    ensures line { result.now ≡ line_at text.now cursor.old }
+    ensures behind { cursor.new ≡ behind text.now cursor.old }
+{
+    let start = *cursor;
+    let end = line_end(text, start);
+    *cursor = (end + 1).min(text.len());
+    &text[start..end]
 }

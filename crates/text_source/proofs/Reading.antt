@@ -1,7 +1,8 @@
 -- Lines read into a page, row behind row.
-use Rattle.std.proofs.Common.{◌≡◌, ℕ, ◌+◌, ◌*◌, ◌<◌, ◌≤◌, List, [], ◌∷◌, ◌++◌, map, length, take, drop, Ok, Err, sym, refl, ap, ◌∙◌, subst, append_assoc, arith, length-drop, length-take}
+use Rattle.std.proofs.Common.{◌≡◌, ℕ, suc, ◌+◌, ◌*◌, ◌<◌, ◌≤◌, List, [], ◌∷◌, ◌++◌, map, length, take, drop, Ok, Err, Result, sym, refl, ap, ◌∙◌, subst, inl, inr, mul-le-mul_right, suc-mul, append_assoc, arith, length-drop, length-take}
 use Rattle.std.proofs.lemmas.List.{take-append-drop, drop-drop, drop_all, map_push}
 use Rattle.cells.specs.declared.full.Full.{Full}
+use Rattle.lines.specs.declared.reader.Answer.{Answer}
 use Rattle.lines.specs.declared.reader.Answer.TheVariants.{Row, End}
 use Rattle.lines.specs.declared.reader.LineRefusal.{LineRefusal}
 use Rattle.lines.specs.declared.reader.LineRefusal.TheVariants.{Miscounted, Malformed}
@@ -11,7 +12,7 @@ use Rattle.memory.specs.Rows.{rows_from, put_row}
 use Rattle.memory.proofs.Pages.{rows_put}
 use Rattle.texts.specs.Items.{good, bad, items}
 use Rattle.texts.proofs.Firsts.{next_row, next_refused}
-use Rattle.text_source.specs.Fills.{ReadAt}
+use Rattle.text_source.specs.Fills.{ReadAt, Filled}
 
 pub long_part : (w at : ℕ) (page : List Full) → at + w ≤ length page → length (take w (drop at page)) ≡ w
 long_part w at page h = length-take w (drop at page) ∙ omega (arith, length-drop at page)
@@ -60,3 +61,33 @@ bad_same w at cursor next text page page' e room h =
       s.2,
       subst (λ k. items k (drop cursor text) ≡ bad e ∷ items k (drop (behind text cursor) text)) (long_part w at page room) item,
     )
+
+-- one of 64 rows has room
+pub room : (n w len : ℕ) → n < 64 → 64 * w ≤ len → n * w + w ≤ len
+room n w len h l = let m : suc n * w ≤ 64 * w = mul-le-mul_right w h in omega (arith, suc-mul n w)
+
+-- what was read with the columns and the text that a source has now was read with those that it had
+pub read_here : (w a b n : ℕ) (text t : List ℕ) (cursor next : ℕ) (page page' : List Full) (q r : Result Answer LineRefusal) → a ≡ w → b ≡ w → t ≡ text → q ≡ r → ReadAt a (n * b) t cursor page q page' next → ReadAt w (n * w) text cursor page r page' next
+read_here w a b n text t cursor next page page' q r d e f g h =
+    subst (λ x. ReadAt w (n * w) text cursor page x page' next) g (subst (λ x. ReadAt w (n * x) text cursor page q page' next) e (subst (λ x. ReadAt x (n * b) text cursor page q page' next) d (subst (λ x. ReadAt a (n * b) x cursor page q page' next) f h)))
+
+-- a loop that ends with this line
+module _ (w n start cursor next : ℕ) (text : List ℕ) (page page' : List Full) where
+  unchanged : page' ≡ page → next ≡ cursor → Sofar w text start cursor n page → Sofar w text start next n page'
+  unchanged e f sofar = sofar ∙ (λ i. map good (rows_from n w (sym e i)) ++ items w (drop (sym f i) text))
+
+  pub filled_end : n < 64 → n * w + w ≤ length page → Sofar w text start cursor n page → ReadAt w (n * w) text cursor page (Ok End) page' next → Filled w text start next page' (Ok n)
+  filled_end few enough sofar h =
+      let s = end_same w (n * w) cursor next text page page' enough h in
+      (omega arith, unchanged s.0 s.1 sofar, inr (inl (ap (λ m. items w (drop m text)) s.1 ∙ s.2)))
+
+  pub filled_bad : (e : LineRefusal) → n < 64 → 0 < n → n * w + w ≤ length page → Sofar w text start cursor n page → ReadAt w (n * w) text cursor page (Err e) page' next → Filled w text start next page' (Ok n)
+  filled_bad e few some enough sofar h =
+      let s = bad_same w (n * w) cursor next text page page' e enough h in
+      (omega arith, unchanged s.0 s.1 sofar, inr (inr (some, (e, subst (λ m. items w (drop m text) ≡ bad e ∷ items w (drop (behind text m) text)) (sym s.1) s.3))))
+
+  pub first_bad : (e : LineRefusal) → n ≡ 0 → n * w + w ≤ length page → Sofar w text start cursor n page → ReadAt w (n * w) text cursor page (Err e) page' next → Filled w text start next page' (Err e)
+  first_bad e none enough sofar h =
+      let s = bad_same w (n * w) cursor next text page page' e enough h in
+      let all : items w (drop start text) ≡ items w (drop cursor text) = sofar ∙ ap (λ m. map good (rows_from m w page) ++ items w (drop cursor text)) none in
+      (omega (arith, s.1, s.2), all ∙ s.3 ∙ ap (λ m. bad e ∷ items w (drop (behind text m) text)) (sym s.1))

@@ -1,4 +1,3 @@
-pub mod Columns
 pub mod Refusals
 pub mod Grouped
 pub mod Fills

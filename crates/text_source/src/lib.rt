@@ -2,9 +2,7 @@
 #![tactic(auto)]
 
 mod columns;
-mod front;
-mod refusal;
 mod text;
 
-pub use columns::{TextColumns, TextRefusal};
+pub use columns::{TextRefusal, text_columns};
 pub use text::TextSource;

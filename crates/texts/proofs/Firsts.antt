@@ -1,13 +1,14 @@
 -- The first line of what is left of a text, and what it brings.
-use Rattle.std.proofs.Common.{◌≡◌, ℕ, suc, ◌+◌, ◌<◌, Bool, true, false, cond, not, eqb, List, [], ◌∷◌, map, length, take, drop, Ok, Err, sym, refl, ap, ◌∙◌, inl, inr, ⊎_elim, arith, length-drop}
+use Rattle.std.proofs.Common.{◌≡◌, ℕ, suc, ◌+◌, ◌<◌, Bool, true, false, cond, not, eqb, List, [], ◌∷◌, map, length, take, drop, Ok, Err, Result, sym, refl, ap, ◌∙◌, subst, inl, inr, ⊎_elim, arith, length-drop}
+use Rattle.std.specs.Result.{is_err}
 use Rattle.std.proofs.lemmas.List.{drop_all, drop-drop}
-use Rattle.std.proofs.lemmas.Bool.{cond-true, cond-false, eq-eqb, ne_eqb, cases_lt}
+use Rattle.std.proofs.lemmas.Bool.{cond-true, cond-false, eq-eqb, ne_eqb, lt-ltb, cases_lt}
 use Rattle.cells.specs.declared.full.Full.{Full}
 use Rattle.lines.specs.declared.reader.Answer.{Answer}
 use Rattle.lines.specs.declared.reader.Answer.TheVariants.{Row, End}
 use Rattle.lines.specs.declared.reader.LineRefusal.{LineRefusal}
 use Rattle.lines.specs.declared.reader.LineRefusal.TheVariants.{Miscounted, Malformed}
-use Rattle.lines.specs.Written.{Means, commas, before, line_at, behind}
+use Rattle.lines.specs.Written.{Means, commas, before, line_at, behind, passed}
 use Rattle.lines.specs.Rows.{Read}
 use Rattle.lines.proofs.Splits.{means_count}
 use Rattle.lines.proofs.Once.{means_once}
@@ -65,7 +66,7 @@ next_row text at row r n h =
     let w = length row in
     (items_first w text at h.0 ∙ ap (λ i. i ∷ items w (drop (behind text at) text)) (item_good w (line_at text at) r h.3 h.1) ∙ ap (λ x. good r ∷ items w (drop x text)) (sym h.2), h.3, h.0, h.2)
 
-pub next_end : (text : List ℕ) (at : ℕ) (row r : List Full) (n : ℕ) → Read text at row (Ok End) r n → Next (length row) text at row (Ok End) r n
+next_end : (text : List ℕ) (at : ℕ) (row r : List Full) (n : ℕ) → Read text at row (Ok End) r n → Next (length row) text at row (Ok End) r n
 next_end text at row r n h = (ap (items (length row)) (drop_all at text h.0), h.1, h.2, h.0)
 
 pub next_refused : (text : List ℕ) (at : ℕ) (row : List Full) (e : LineRefusal) (r : List Full) (n m : ℕ) → Read text at row (Err e) r n → m ≡ behind text at → Next (length row) text at row (Err e) r m
@@ -76,11 +77,12 @@ next_refused text at row Malformed r n m h p =
     let w = length row in
     (items_first w text at h.0 ∙ ap (λ i. i ∷ items w (drop (behind text at) text)) (item_malformed w (line_at text at) h.1 h.2) ∙ ap (λ x. bad Malformed ∷ items w (drop x text)) (sym p), h.3, h.0, p)
 
--- a refused reader has not moved, and a line is there
-pub refused_stays : (text : List ℕ) (at : ℕ) (row : List Full) (e : LineRefusal) (r : List Full) (n : ℕ) → Read text at row (Err e) r n → (n ≡ at) × (n < length text)
-refused_stays text at row Miscounted r n h = (h.3, omega (arith, h.0, h.3))
-refused_stays text at row Malformed r n h = (h.4, omega (arith, h.0, h.4))
+-- a refused reader has not moved, and its line is passed then
+refused_passed : (text : List ℕ) (at : ℕ) (row : List Full) (e : LineRefusal) (r : List Full) (n : ℕ) → Read text at row (Err e) r n → passed text n ≡ behind text at
+refused_passed text at row Miscounted r n h = ap (passed text) h.3 ∙ cond-true _ _ _ (lt-ltb _ _ h.0)
+refused_passed text at row Malformed r n h = ap (passed text) h.4 ∙ cond-true _ _ _ (lt-ltb _ _ h.0)
 
-pub next_ok : (text : List ℕ) (at : ℕ) (row : List Full) (a : Answer) (r : List Full) (n : ℕ) → Read text at row (Ok a) r n → Next (length row) text at row (Ok a) r n
-next_ok text at row Row r n h = next_row text at row r n h
-next_ok text at row End r n h = next_end text at row r n h
+pub next_read : (text : List ℕ) (at : ℕ) (row : List Full) (x : Result Answer LineRefusal) (r : List Full) (n m : ℕ) → Read text at row x r n → m ≡ cond (is_err x) (passed text n) n → Next (length row) text at row x r m
+next_read text at row (Ok Row) r n m h e = subst (Next (length row) text at row (Ok Row) r) (sym e) (next_row text at row r n h)
+next_read text at row (Ok End) r n m h e = subst (Next (length row) text at row (Ok End) r) (sym e) (next_end text at row r n h)
+next_read text at row (Err f) r n m h e = next_refused text at row f r n m h (e ∙ refused_passed text at row f r n h)

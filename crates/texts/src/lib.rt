@@ -11,11 +11,9 @@ use lines::{Answer, LineRefusal, pass_line, read_row};
 pub fn next_line(text: &[u8], cursor: &mut usize, row: &mut [Full]) -> Result<Answer, LineRefusal>
     ensures { Next (length row.old) text.now cursor.old row.old result row.new cursor.new }
 {
-    match read_row(text, cursor, row) {
-        Ok(answer) => Ok(answer),
-        Err(refusal) => {
-            pass_line(text, cursor);
-            Err(refusal)
-        }
+    let read = read_row(text, cursor, row);
+    if read.is_err() {
+        pass_line(text, cursor);
     }
+    read
 }

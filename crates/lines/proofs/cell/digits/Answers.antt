@@ -24,7 +24,7 @@ overflow_mul-n c = omega (arith, room _ _ _ (c.if-not-sized.ensures.0 refl) c.lo
 pub overflow_add-n : goal.overflow_add-n
 overflow_add-n c =
     let d = digit_in (get_or c.args.text.now c.loop-b.b-index 0) (sym c.if-not-is_ascii_digit.ensures.value) in
-    omega (arith, room _ _ _ (c.if-not-sized.ensures.0 refl) c.loop-b.auto.b-index-end c.loop-b.invariant.1)
+    omega (arith, c.from.ensures, room _ _ _ (c.if-not-sized.ensures.0 refl) c.loop-b.auto.b-index-end c.loop-b.invariant.1)
 
 pub returns-then-not-is_ascii_digit : goal.returns-then-not-is_ascii_digit
 returns-then-not-is_ascii_digit c =
@@ -36,7 +36,7 @@ loop-b-preserved c =
     let i = c.loop-b.b-index in
     let d = c.if-not-is_ascii_digit.ensures.value in
     let r = digit_in (get_or t i 0) (sym d) in (
-      ap (λ x. x * 10 + (get_or t i 0 - 48)) c.loop-b.invariant.0 ∙ sym (fold_more (λ n d. n * 10 + (d - 48)) 0 t i 0 c.loop-b-test.true),
+      ap (λ x. c.loop-b.n * 10 + x) c.from.ensures ∙ ap (λ x. x * 10 + (get_or t i 0 - 48)) c.loop-b.invariant.0 ∙ sym (fold_more (λ n d. n * 10 + (d - 48)) 0 t i 0 c.loop-b-test.true),
       omega (arith, pow-suc 10 i, ap (λ x. 10 ^ x) (add-one i)),
       ap (λ x. x && all_ascii_digits (drop (i + 1) t)) d ∙ sym (digits_step t i c.loop-b-test.true) ∙ c.loop-b.invariant.2,
     )

@@ -1,59 +1,62 @@
--- One cell more is written, up to the line's end.
-use Rattle.std.proofs.Common.{◌≡◌, ◌+◌, [], ◌∷◌, ◌++◌, length, take, drop, set, sym, ap, ◌∙◌, subst, arith, length-set}
-use Rattle.std.proofs.lemmas.List.{take_more_set, take_all}
-use Rattle.lines.specs.Written.{Means, Writes, commas, before}
-use Rattle.lines.proofs.Splits.{Sofar, sofar_none, sofar_more, sofar_all, stuck, split, no_commas, Here, here}
+-- The cell of one text more is written, up to the last.
+use Rattle.std.proofs.Common.{rules, ◌≡◌, ◌<◌, eqb, length, get_or, take, ◌∙◌, subst, arith}
+use Rattle.std.specs.List.{AllZip, enumerate_from}
+use Rattle.std.proofs.lemmas.Iterator.{YieldsList}
+use Rattle.std.proofs.lemmas.Iterator.Consumers.{YieldsList-at, YieldsList-from_enumerate, YieldsList-turn, YieldsList-end}
+use Rattle.std.proofs.lemmas.Iterator.Splits.{YieldsList-from_slice_split}
+use Rattle.std.proofs.lemmas.List.FromFn.{length-enumerate_from}
+use Rattle.std.proofs.lemmas.List.{length_push, take_all}
+use Rattle.lines.specs.Written.{Writes}
+use Rattle.lines.proofs.Splits.{texts, length-texts, cells_from, means_from, cell_at, turn, one_more}
+use Rattle.lines.proofs.line.fill.Given as given
 use Rattle.lines.proofs.line.fill.Goals as goal
-use Rattle.lines.proofs.line.fill.Goals.{After-find-to}
+use Rattle.lines.proofs.line.fill.Goals.{In-Some, After-into_iter-n-iterator}
 
-at : (c : After-find-to) → Here c.args.line.now c.loop-c.from c.find-to.result
-at c = here _ _ _ c.find-to.ensures.place c.find-to.ensures.within.0 c.find-to.ensures.within.1
+road : (c : After-into_iter-n-iterator) → YieldsList (given.iterator-loop-n).next_gives (λ p. (p.0, p.1.now)) c.into_iter-n-iterator.result (enumerate_from 0 (texts c.args.line.now))
+road c =
+    let e = c.split.ensures in
+    YieldsList-at c.into_iter-n-iterator.ensures.into_iter_gives (YieldsList-from_enumerate (YieldsList-at c.enumerate-n-items.ensures.source (YieldsList-from_slice_split _ (λ b. eqb b 44) c.args.line.now e.rest e.done e.closure (λ x b q k. search rules))) c.enumerate-n-items.ensures.count)
 
-pub loop-c-init : goal.loop-c-init
-loop-c-init c = (omega arith, omega arith, sofar_none _)
+-- one turn: the place is the count of the turns before, and the text stands there
+here : (c : In-Some) → YieldsList (given.iterator-loop-n).next_gives (λ p. (p.0, p.1.now)) c.into_iter-n-iterator.result (enumerate_from 0 (texts c.args.line.now)) → (length c.loop-n.yielded < length (texts c.args.line.now)) × (c.in-Some.n ≡ length c.loop-n.yielded) × (c.in-Some.text.now ≡ get_or (texts c.args.line.now) (length c.loop-n.yielded) c.in-Some.text.now)
+here c all =
+    turn (texts c.args.line.now) (length c.loop-n.yielded) c.in-Some.n c.in-Some.text.now (YieldsList-turn all c.loop-n.yielded c.loop-n.n-iterator c.loop-n.yielded_by c.next.result c.next.new.self (c.in-Some.n, c.in-Some.text) c.in-Some.is c.next.ensures.steps)
+
+pub bounds-row-n : goal.bounds-row-n
+bounds-row-n c =
+    let g = goal.at.bounds-row-n c in
+    let h = here g.In-Some (road g.After-into_iter-n-iterator) in
+    omega (arith, h.0, h.1, length-texts c.args.line.now)
+
+pub offset_bounds-row-n : goal.offset_bounds-row-n
+offset_bounds-row-n c =
+    let g = goal.at.offset_bounds-row-n c in
+    let h = here g.In-Some (road g.After-into_iter-n-iterator) in
+    omega (arith, h.0, h.1, length-texts c.args.line.now)
 
 pub unreachable-requires : goal.unreachable-requires
 unreachable-requires c =
-    let h = at (goal.at.unreachable-requires c).After-find-to in
-    let rest = drop c.loop-c.from c.args.line.now in
-    let p = c.loop-c.invariant.2.back c.requires.stands.0 c.requires.stands.1 in
-    stuck p.0 rest (λ d w. c.in-None.ensures d (subst (λ x. Writes d (take x rest)) (sym h.size) w)) p.1
-
-pub bounds-row-n : goal.bounds-row-n
-bounds-row-n c = omega arith
-
-pub offset_bounds-row-n : goal.offset_bounds-row-n
-offset_bounds-row-n c = omega arith
-
-pub overflow_add-n : goal.overflow_add-n
-overflow_add-n c = omega arith
-
-pub returns-then-to-line : goal.returns-then-to-line
-returns-then-to-line c =
-    let h = at (goal.at.returns-then-to-line c).After-find-to in
+    let g = goal.at.unreachable-requires c in
+    let h = here g.In-Some (road g.After-into_iter-n-iterator) in
     let line = c.args.line.now in
-    let rest = drop c.loop-c.from line in
-    let n = c.loop-c.n in
-    let row = c.loop-c.row in
-    let d = c.in-Some.c in
-    let w : Writes d (take (before 44 rest) rest) = subst (λ x. Writes d (take x rest)) h.size c.in-Some.ensures in
-    let all = h.last c.if-to-line.true in
-    let full : length row ≡ n + 1 = omega (arith, no_commas rest all) in
-    let e : set row n d ≡ take n row ++ d ∷ [] =
-    sym (take_all (n + 1) (set row n d) (omega (arith, length-set row n d))) ∙ take_more_set row n d (omega arith) in
-    subst (λ l. Means l line) (sym e) (sofar_all line _ rest d c.loop-c.invariant.2 all w)
+    let p = cell_at c.requires.stands.0 (texts line) (length c.loop-n.yielded) c.in-Some.text.now (cells_from c.requires.stands.0 line c.requires.stands.1) h.0 h.2 in
+    c.in-None-read_cell.ensures p.0 p.1
 
-pub loop-c-preserved : goal.loop-c-preserved
-loop-c-preserved c =
-    let h = at (goal.at.loop-c-preserved c).After-find-to in
-    let line = c.args.line.now in
-    let rest = drop c.loop-c.from line in
-    let n = c.loop-c.n in
-    let row = c.loop-c.row in
-    let d = c.in-Some.c in
-    let w : Writes d (take (before 44 rest) rest) = subst (λ x. Writes d (take x rest)) h.size c.in-Some.ensures in
-    let some = h.more c.if-to-line.false in (
-      omega arith,
-      omega (arith, (split rest some).count, ap commas h.next),
-      subst (λ l. Sofar line l (drop (c.find-to.result + 1) line)) (sym (take_more_set row n d (omega arith))) (subst (Sofar line (take n row ++ d ∷ [])) h.next (sofar_more line (take n row) rest d c.loop-c.invariant.2 some w)),
+pub loop-n-preserved : goal.loop-n-preserved
+loop-n-preserved c =
+    let g = goal.at.loop-n-preserved c in
+    let h = here g.In-Some (road g.After-into_iter-n-iterator) in
+    let line = c.args.line.now in (
+      search rules,
+      search rules,
+      one_more (texts line) c.loop-n.row (length c.loop-n.yielded) c.in-Some.n _ c.in-Some-read_cell.cell c.in-Some.text.now c.loop-n.invariant.2 h (omega (arith, h.0, length-texts line)) (length_push c.loop-n.yielded (c.in-Some.n, c.in-Some.text)) c.in-Some-read_cell.ensures,
     )
+
+pub returns : goal.returns
+returns c =
+    let g = goal.at.returns c in
+    let line = c.args.line.now in
+    let n = length c.loop-n.yielded in
+    let done = YieldsList-end (road g.After-into_iter-n-iterator) c.loop-n.yielded c.loop-n.n-iterator c.loop-n.yielded_by c.next.result c.next.new.self c.in-None.is c.next.ensures.steps in
+    let all : n ≡ length (texts line) = done.1 ∙ length-enumerate_from 0 (texts line) in
+    means_from c.loop-n.row line (subst (AllZip Writes c.loop-n.row) (take_all n (texts line) (omega arith)) (subst (λ r. AllZip Writes r (take n (texts line))) (take_all n c.loop-n.row (omega (arith, length-texts line))) c.loop-n.invariant.2))

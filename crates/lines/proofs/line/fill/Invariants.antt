@@ -1,14 +1,12 @@
--- The row's front holds the cells so far, and the rest of the line stands for the rest of the row.
-use Rattle.std.proofs.Common.{◌≡◌, ◌+◌, ◌-◌, ◌≤◌, length, take, drop}
-use Rattle.lines.specs.Written.{commas}
-use Rattle.lines.proofs.Splits.{Sofar}
+-- The row's front is written by the texts so far.
+use Rattle.std.proofs.Common.{length, take}
+use Rattle.std.specs.List.{AllZip}
+use Rattle.lines.specs.Written.{Writes}
+use Rattle.lines.proofs.Splits.{texts}
 use Rattle.lines.proofs.line.fill.Given as goal
 
-abbrev pub invariant-loop-c : goal.invariant-loop-c
-invariant-loop-c l =
-    (l.from ≤ length l.line)
-    × (l.n + commas (drop l.from l.line) ≡ commas l.line)
-    × Sofar l.line (take l.n l.row) (drop l.from l.line)
-
-abbrev pub decreases-loop-c : goal.decreases-loop-c
-decreases-loop-c l = length l.line - l.from
+abbrev pub invariant-loop-n : goal.invariant-loop-n
+invariant-loop-n l =
+    (goal.iterator-loop-n).can_next l.n-iterator
+    × (goal.iterator-loop-n).is_finite l.n-iterator
+    × AllZip Writes (take (length l.yielded) l.row) (take (length l.yielded) (texts l.line))

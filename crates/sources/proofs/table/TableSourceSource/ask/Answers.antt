@@ -17,6 +17,8 @@ returns-clause-answer g c =
     let w = s.shape.columns.count in
     let k = c.min-count.result in
     let w-is = c.columns-columns.ensures in
-    let rows = ap (λ n. length cells / n) w-is in
-    (omega arith, served s.shape.batch w k cells _ _ _ s.shape.filled s.shape.columns.some (omega arith) (omega (arith, rows))
-        (c.copy_from_slice.ensures.after ∙ c.split_at.ensures.front ∙ ap (λ n. take (k * n) cells) w-is) (c.split_at.ensures.back ∙ ap (λ n. drop (k * n) cells) w-is))
+    let rows = ap (λ n. length cells / n) w-is in (
+      omega arith,
+      served s.shape.batch w k cells _ _ _ s.shape.filled s.shape.columns.some (omega arith) (omega (arith, rows))
+          (c.copy_from_slice.ensures.after ∙ c.split_at.ensures.front ∙ ap (λ n. take (k * n) cells) w-is) (c.split_at.ensures.back ∙ ap (λ n. drop (k * n) cells) w-is),
+    )

@@ -1,15 +1,18 @@
-use Rattle.std.proofs.Common.{◌*◌, ◌≤◌, refl, mul-le-mul_right, arith}
-use Rattle.text_source.proofs.Answering.{text_taken}
+-- The rows read are the first batch.
+use Rattle.std.proofs.Common.{◌*◌, ◌≤◌, [], ◌∷◌, drop, sym, ◌∙◌, mul-le-mul_right, arith}
+use Rattle.memory.specs.Items.{batch}
+use Rattle.texts.specs.Items.{items}
+use Rattle.text_source.specs.Grouped.{grouped}
+use Rattle.text_source.proofs.Answering.{taken_batch}
 use Rattle.text_source.proofs.text.TextSourceSource.ask.Goals as goal
 
-pub returns : goal.returns
-returns c =
+pub returns-in-Ok-clause-answer : goal.returns-in-Ok-clause-answer
+returns-in-Ok-clause-answer c =
     let s = c.args.self.now in
     let w = s.columns.count in
-    let f = c.read_front-filled.result in
-    let filled = c.read_front-filled.ensures.filled in
-    let m : f.rows * w ≤ 64 * w = mul-le-mul_right w filled.few in
-    record {
-      answer = (omega arith, text_taken w s.text.now s.cursor c.read_front-filled.new.cursor c.answered-answer.new.cursor c.read_front-filled.new.page f c.answered-answer.result filled (omega (arith, c.read_front-filled.ensures.long)) c.answered-answer.ensures);
-      width = refl;
-    }
+    let t = c.read_front.new.self in
+    let n = c.in-Ok.rows in
+    let read = c.in-Ok.ensures in
+    let fits : n * w ≤ 64 * w = mul-le-mul_right w read.filled.0 in
+    let taken = taken_batch w s.text.now s.cursor t.cursor c.read_front.new.page n (omega arith) (omega (arith, read.long)) read.filled in
+    (omega arith, (taken.0, taken.1 ∙ (λ i. batch taken.0 ∷ grouped [] (items (sym read.same.1 i).count (drop t.cursor (sym read.same.0 i)))), taken.2, taken.3))
