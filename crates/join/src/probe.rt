@@ -20,6 +20,13 @@ use opening::Plan;
 use probing::{PairMarks, Pairing};
 use verdicts::Verdict;
 
+// What the caller lends for the join: the verdict, and the left memory.
+#[derive(Drop)]
+pub(crate) struct Lent<'a, V: Verdict> {
+    pub verdict: &'a V,
+    pub left: &'a [V::Cell],
+}
+
 impl Probe {
     // How many left rows the next step joins with the batch.
     pub(crate) fn rows_joined(&self, plan: &Plan) -> usize
@@ -38,8 +45,7 @@ impl Probe {
     fn process_probe_batch<'a, V: Verdict>(
         &mut self,
         plan: &'a Plan,
-        verdict: &'a V,
-        left: &[V::Cell],
+        lent: &'a Lent<V>,
         right: &[V::Cell],
         left_marks: &mut [u64],
         waiting: &mut [V::Cell],
@@ -52,16 +58,16 @@ impl Probe {
         requires words { length left_marks.old ≡ 64 }
         requires room { room_of plan.now self.old.largest * plan.now.list.count ≤ length waiting.old }
         ensures answer { result ≡ On }
-        ensures handled { (who most n : ℕ) (items : List (Item V.Cell)) (out : List V.Cell) → Handles plan.now who most self.old self.new (around left_marks.old n items right.now waiting.old out) (around left_marks.new n items right.now waiting.new out) On (meet (setup_in V.Cell.Cell.missing V.Cell.Cell.yes V.Cell.Cell.no plan.now (V.Verdict.says verdict.now) left.now) (take (rows_met (setup_in V.Cell.Cell.missing V.Cell.Cell.yes V.Cell.Cell.no plan.now (V.Verdict.says verdict.now) left.now) (length (rows_from self.old.rows plan.now.list.right_columns right.now)) self.old.index) (drop self.old.index (rows_from plan.now.left_rows plan.now.list.left_columns left.now))) (bits_of plan.now.left_rows left_marks.old) n (rows_from self.old.rows plan.now.list.right_columns right.now) (bits_of self.old.rows self.old.right_marks) self.old.index (waiting_rows plan.now self.old waiting.old) items) }
+        ensures handled { (who most n : ℕ) (items : List (Item V.Cell)) (out : List V.Cell) → Handles plan.now who most self.old self.new (around left_marks.old n items right.now waiting.old out) (around left_marks.new n items right.now waiting.new out) On (meet (setup_in V.Cell.Cell.missing V.Cell.Cell.yes V.Cell.Cell.no plan.now (V.Verdict.says lent.now.verdict.now) lent.now.left.now) (take (rows_met (setup_in V.Cell.Cell.missing V.Cell.Cell.yes V.Cell.Cell.no plan.now (V.Verdict.says lent.now.verdict.now) lent.now.left.now) (length (rows_from self.old.rows plan.now.list.right_columns right.now)) self.old.index) (drop self.old.index (rows_from plan.now.left_rows plan.now.list.left_columns lent.now.left.now))) (bits_of plan.now.left_rows left_marks.old) n (rows_from self.old.rows plan.now.list.right_columns right.now) (bits_of self.old.rows self.old.right_marks) self.old.index (waiting_rows plan.now self.old waiting.old) items) }
         ensures sound { Sound plan.now self.new }
     {
         let from = self.index;
         let to = from + self.rows_joined(plan);
         let pairing = Pairing {
-            verdict,
+            verdict: lent.verdict,
             output: output_of(plan),
         };
-        let lefts = Rows::first(left, plan.list.left_columns, plan.left_rows);
+        let lefts = Rows::first(lent.left, plan.list.left_columns, plan.left_rows);
         let rights = Rows::first(right, plan.list.right_columns, self.rows);
         let mut marks = PairMarks {
             left: left_marks,
@@ -81,8 +87,7 @@ impl Probe {
     pub(crate) fn handle_probe_right<V: Verdict>(
         &mut self,
         plan: &Plan,
-        verdict: &V,
-        left: &[V::Cell],
+        lent: &Lent<V>,
         right: &[V::Cell],
         left_marks: &mut [u64],
         waiting: &mut [V::Cell],
@@ -94,14 +99,14 @@ impl Probe {
         requires words { length left_marks.old ≡ 64 }
         requires room { room_of plan.now self.old.largest * plan.now.list.count ≤ length waiting.old }
         requires outs { plan.now.batch_size * plan.now.list.count ≤ length out.old }
-        ensures handled { (who most n : ℕ) (items : List (Item V.Cell)) → Handles plan.now who most self.old self.new (around left_marks.old n items right.now waiting.old out.old) (around left_marks.new n items right.now waiting.new out.new) result (handled_by (setup_in V.Cell.Cell.missing V.Cell.Cell.yes V.Cell.Cell.no plan.now (V.Verdict.says verdict.now) left.now) plan.now self.old (around left_marks.old n items right.now waiting.old out.old)) }
+        ensures handled { (who most n : ℕ) (items : List (Item V.Cell)) → Handles plan.now who most self.old self.new (around left_marks.old n items right.now waiting.old out.old) (around left_marks.new n items right.now waiting.new out.new) result (handled_by (setup_in V.Cell.Cell.missing V.Cell.Cell.yes V.Cell.Cell.no plan.now (V.Verdict.says lent.now.verdict.now) lent.now.left.now) plan.now self.old (around left_marks.old n items right.now waiting.old out.old)) }
         ensures sound { Sound plan.now self.new }
     {
         if self.waiting >= plan.batch_size {
             return self.deliver_rows(plan, plan.batch_size, waiting, out);
         }
         if self.index < plan.left_rows {
-            return self.process_probe_batch(plan, verdict, left, right, left_marks, waiting);
+            return self.process_probe_batch(plan, lent, right, left_marks, waiting);
         }
         if need_produce_right_in_final(plan.list.join_type) {
             self.state = NLJState::EmitRightUnmatched;
