@@ -65,6 +65,7 @@ impl<V: Verdict> Pairing<'_, V> {
         ensures page { waiting.new.cells.ghost_name ≡ waiting.old.cells.ghost_name }
         ensures met { (S : Setup V.Cell) → PairsBy S V.Cell.Cell.missing (V.Verdict.says self.now.verdict.now) self.now.output → met_in marks.new waiting.new ≡ met_row S i left.now 0 (rows_in right.now) (met_in marks.old waiting.old) }
     {
+        // By number, since the marks go by it.
         for j in 0..right.count() {
             let row = right.row(j);
             if self.verdict.ask(left, row).is_true() {
@@ -89,6 +90,7 @@ impl<V: Verdict> Pairing<'_, V> {
         ensures rows { (S : Setup V.Cell) → PairsBy S V.Cell.Cell.missing (V.Verdict.says self.now.verdict.now) self.now.output → MetRoom S left.now.count right.now.count ((range.end - range.start) * right.now.count) (met_in marks.old waiting.old) → MetRows S left.now.count right.now.count range.start (stretch range.start range.end (rows_in left.now)) (rows_in right.now) (met_in marks.old waiting.old) (met_in marks.new waiting.new) }
         ensures few { waiting.new.rows ≤ waiting.old.rows + (range.end - range.start) * right.now.count }
     {
+        // By number, since the marks go by it.
         for i in range.start..range.end.min(left.count()) {
             self.process_single_left_row_join(i, left.row(i), right, marks, waiting);
         }
