@@ -44,17 +44,7 @@ joined_pairs plan p most h = go (ltb 10 (b / p.rows))
 
 -- a probe that has joined so many left rows
 abbrev pub met : Probe → List ℕ → ℕ → ℕ → Probe
-met p words i k = record {
-  state = p.state;
-  rows = p.rows;
-  right_marks = words;
-  index = i;
-  is_emitter = p.is_emitter;
-  waiting = k;
-  largest = p.largest;
-  taken = p.taken;
-  answered = p.answered;
-}
+met p words i k = record p { right_marks = words; index = i; waiting = k }
 
 module _ {C : Type 0} (S : Setup C) (plan : Plan) (who most : ℕ) (p : Probe) (is : p.state ≡ nlj.ProbeRight)
     (marks marks' words' : List ℕ) (n : ℕ) (items : List (Item C)) (right waiting waiting' out : List C) (k t t' : ℕ) where

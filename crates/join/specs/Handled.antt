@@ -53,56 +53,16 @@ rows_joined plan p = cond (nat_lt 10 (plan.batch_size / p.rows)) (min (plan.batc
 
 -- a probe with so many waiting rows
 abbrev pub with_waiting : Probe → ℕ → Probe
-with_waiting p k = record {
-  state = p.state;
-  rows = p.rows;
-  right_marks = p.right_marks;
-  index = p.index;
-  is_emitter = p.is_emitter;
-  waiting = k;
-  largest = p.largest;
-  taken = p.taken;
-  answered = p.answered;
-}
+with_waiting p k = record p { waiting = k }
 
 -- a probe in another state
 abbrev pub with_state : Probe → NLJState → Probe
-with_state p s = record {
-  state = s;
-  rows = p.rows;
-  right_marks = p.right_marks;
-  index = p.index;
-  is_emitter = p.is_emitter;
-  waiting = p.waiting;
-  largest = p.largest;
-  taken = p.taken;
-  answered = p.answered;
-}
+with_state p s = record p { state = s }
 
 -- a probe that has ended, of which so many were unfinished
 abbrev pub ended : Probe → ℕ → Probe
-ended p n = record {
-  state = EmitLeftUnmatched;
-  rows = p.rows;
-  right_marks = p.right_marks;
-  index = 0;
-  is_emitter = is_one n;
-  waiting = p.waiting;
-  largest = p.largest;
-  taken = p.taken;
-  answered = p.answered;
-}
+ended p n = record p { state = EmitLeftUnmatched; index = 0; is_emitter = is_one n }
 
 -- a probe that has answered done
 abbrev pub finished : Probe → Probe
-finished p = record {
-  state = p.state;
-  rows = p.rows;
-  right_marks = p.right_marks;
-  index = p.index;
-  is_emitter = p.is_emitter;
-  waiting = p.waiting;
-  largest = p.largest;
-  taken = p.taken;
-  answered = true;
-}
+finished p = record p { answered = true }

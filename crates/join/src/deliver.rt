@@ -23,28 +23,30 @@ pub(crate) fn output_of(plan: &Plan) -> JoinOutput
     }
 }
 
-// Moves the first of the waiting rows to the front of the out page, and the others to the front of their own.
-pub(crate) fn deliver_rows<C: Copy>(
-    plan: &Plan,
-    probe: &mut Probe,
-    rows: usize,
-    waiting: &mut [C],
-    out: &mut [C],
-) -> Answer
-    requires some { rows ≤ probe.old.waiting }
-    requires lying { probe.old.waiting * plan.now.list.count ≤ length waiting.old }
-    requires room { rows * plan.now.list.count ≤ length out.old }
-    ensures answer { result ≡ Batch rows }
-    ensures probe { probe.new ≡ with_waiting probe.old (probe.old.waiting - rows) }
-    ensures out { out.new ≡ cells_of (take rows (waiting_rows plan.now probe.old waiting.old)) ++ drop (length (take rows (waiting_rows plan.now probe.old waiting.old)) * plan.now.list.count) out.old }
-    ensures left { waiting_rows plan.now probe.new waiting.new ≡ drop rows (waiting_rows plan.now probe.old waiting.old) }
-{
-    let mut waiting = WaitingRows {
-        cells: waiting,
-        rows: probe.waiting,
-    };
-    // There is room, by what is required.
-    let _ = waiting.deliver(rows, plan.list.count, out);
-    probe.waiting = waiting.rows;
-    Answer::Batch(rows)
+impl Probe {
+    // Moves the first of the waiting rows to the front of the out page, and the others to the front of their own.
+    pub(crate) fn deliver_rows<C: Copy>(
+        &mut self,
+        plan: &Plan,
+        rows: usize,
+        waiting: &mut [C],
+        out: &mut [C],
+    ) -> Answer
+        requires some { rows ≤ self.old.waiting }
+        requires lying { self.old.waiting * plan.now.list.count ≤ length waiting.old }
+        requires room { rows * plan.now.list.count ≤ length out.old }
+        ensures answer { result ≡ Batch rows }
+        ensures probe { self.new ≡ with_waiting self.old (self.old.waiting - rows) }
+        ensures out { out.new ≡ cells_of (take rows (waiting_rows plan.now self.old waiting.old)) ++ drop (length (take rows (waiting_rows plan.now self.old waiting.old)) * plan.now.list.count) out.old }
+        ensures left { waiting_rows plan.now self.new waiting.new ≡ drop rows (waiting_rows plan.now self.old waiting.old) }
+    {
+        let mut waiting = WaitingRows {
+            cells: waiting,
+            rows: self.waiting,
+        };
+        // There is room, by what is required.
+        let _ = waiting.deliver(rows, plan.list.count, out);
+        self.waiting = waiting.rows;
+        Answer::Batch(rows)
+    }
 }

@@ -7,24 +7,26 @@ ghost use Rattle.join.specs.Handled.{ended, finished};
 use crate::record::Probe;
 use nested_loop::{Answer, NLJState};
 
-// Lowers the count of unfinished probes; who brings it to 0 is the emitter.
-pub(crate) fn handle_probe_end(probe: &mut Probe, unfinished: &mut usize) -> Answer
-    ensures answer { result ≡ On }
-    ensures probe { probe.new ≡ ended probe.old unfinished.old }
-    ensures unfinished { unfinished.new ≡ lower unfinished.old }
-{
-    probe.is_emitter = *unfinished == 1;
-    *unfinished = unfinished.saturating_sub(1);
-    probe.index = 0;
-    probe.state = NLJState::EmitLeftUnmatched;
-    Answer::On
-}
+impl Probe {
+    // Lowers the count of unfinished probes; who brings it to 0 is the emitter.
+    pub(crate) fn handle_probe_end(&mut self, unfinished: &mut usize) -> Answer
+        ensures answer { result ≡ On }
+        ensures probe { self.new ≡ ended self.old unfinished.old }
+        ensures unfinished { unfinished.new ≡ lower unfinished.old }
+    {
+        self.is_emitter = *unfinished == 1;
+        *unfinished = unfinished.saturating_sub(1);
+        self.index = 0;
+        self.state = NLJState::EmitLeftUnmatched;
+        Answer::On
+    }
 
-// Answers done, and remembers that it did.
-pub(crate) fn handle_done(probe: &mut Probe) -> Answer
-    ensures answer { result ≡ IsDone }
-    ensures probe { probe.new ≡ finished probe.old }
-{
-    probe.answered = true;
-    Answer::Done
+    // Answers done, and remembers that it did.
+    pub(crate) fn handle_done(&mut self) -> Answer
+        ensures answer { result ≡ IsDone }
+        ensures probe { self.new ≡ finished self.old }
+    {
+        self.answered = true;
+        Answer::Done
+    }
 }

@@ -1,4 +1,4 @@
-// What a join keeps between steps, as plain data.
+// What a join keeps between steps, as plain data: what holds of it stands in contracts (docs/DECISIONS.md, "Code forms").
 use nested_loop::NLJState;
 use opening::Plan;
 

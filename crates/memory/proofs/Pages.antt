@@ -7,6 +7,7 @@ use Rattle.std.proofs.lemmas.List.{drop-take, drop-drop, take_at, drop_at, take-
 use Rattle.std.proofs.lemmas.Slice.{between_is, drop-put_mid}
 use Rattle.std.proofs.lemmas.Bool.{cases_lt, leb-true}
 use Rattle.memory.specs.Rows.{row_at, rows_from, put_row}
+use Rattle.memory.proofs.Taken.{take-rows_from, drop-rows_from}
 
 -- what a test of room tells
 pub fits_from : (a b : ℕ) → true ≡ leb a b → a ≤ b
@@ -23,23 +24,6 @@ rows_front {C} (suc n) c xs ys e =
     let two : take (n * c) (drop c xs) ≡ take (n * c) (drop c ys) =
     sym (drop-take c (n * c) xs) ∙ ap (drop c) e' ∙ drop-take c (n * c) ys in
     ap₂ (λ (a : List C) (b : List (List C)). a ∷ b) one (rows_front n c (drop c xs) (drop c ys) two)
-
--- without the first k rows
-pub drop-rows_from : {C : Type 0} (k n c : ℕ) (xs : List C) → drop k (rows_from n c xs) ≡ rows_from (n - k) c (drop (k * c) xs)
-drop-rows_from zero n c xs = let e : n ≡ n - 0 = omega arith in ap₂ (λ (a b : ℕ). rows_from a c (drop b xs)) e (sym (zero-mul c))
-drop-rows_from (suc k) zero c xs = let e : 0 ≡ 0 - suc k = omega arith in ap (λ a. rows_from a c (drop (suc k * c) xs)) e
-drop-rows_from {C} (suc k) (suc n) c xs =
-    let e : n - k ≡ suc n - suc k = omega arith in
-    drop-rows_from k n c (drop c xs)
-    ∙ ap₂ (λ (a : ℕ) (b : List C). rows_from a c b) e (drop-drop (k * c) c xs ∙ ap (λ j. drop j xs) (sym (suc-mul k c ∙ omega arith)))
-
--- the first k rows
-pub take-rows_from : {C : Type 0} (k n c : ℕ) (xs : List C) → take k (rows_from n c xs) ≡ rows_from (min k n) c xs
-take-rows_from zero n c xs = let e : 0 ≡ min 0 n = omega arith in ap (λ a. rows_from a c xs) e
-take-rows_from (suc k) zero c xs = let e : 0 ≡ min (suc k) 0 = omega arith in ap (λ a. rows_from a c xs) e
-take-rows_from (suc k) (suc n) c xs =
-    let e : suc (min k n) ≡ min (suc k) (suc n) = omega arith in
-    ap (λ rs. take c xs ∷ rs) (take-rows_from k n c (drop c xs)) ∙ ap (λ a. rows_from a c xs) e
 
 -- one row more
 pub rows_from-more : {C : Type 0} (n c : ℕ) (xs : List C) → rows_from (n + 1) c xs ≡ rows_from n c xs ++ row_at c xs n ∷ []
@@ -104,7 +88,7 @@ module _ {C : Type 0} where
   rows_given n c w xs zs ys h lx e =
       let m : n * c ≤ w * c = mul-le-mul_right c h in
       let l : length (take (n * c) xs) ≡ n * c = length-take-le (n * c) xs (omega arith) in
-      let k : min n w ≡ n = omega arith in
+      let k : min w n ≡ n = omega arith in
       ap (rows_from n c) e
       ∙ rows_over n c zs (take (n * c) xs) (omega arith)
       ∙ rows_front n c (take (n * c) xs) xs (take-take (n * c) (n * c) xs (omega arith))
@@ -114,6 +98,7 @@ module _ {C : Type 0} where
   pub rows_left : (n c w : ℕ) (xs ys : List C) → n ≤ w → w * c ≤ length xs → ys ≡ put_row xs 0 (drop (n * c) (take (w * c) xs)) → rows_from (w - n) c ys ≡ drop n (rows_from w c xs)
   rows_left n c w xs ys h lx e =
       let r : ℕ = (w - n) * c in
+      let k : min w n ≡ n = omega arith in
       let s : w ≡ n + (w - n) = omega arith in
       let d : w * c ≡ n * c + r = ap (λ a. a * c) s ∙ add-mul n (w - n) c in
       let b : drop (n * c) (take (w * c) xs) ≡ take r (drop (n * c) xs) = ap (λ a. drop (n * c) (take a xs)) d ∙ drop-take (n * c) r xs in
@@ -121,7 +106,7 @@ module _ {C : Type 0} where
       ap (rows_from (w - n) c) (e ∙ ap (put_row xs 0) b)
       ∙ rows_over (w - n) c xs (take r (drop (n * c) xs)) (omega arith)
       ∙ rows_front (w - n) c (take r (drop (n * c) xs)) (drop (n * c) xs) (take-take r r (drop (n * c) xs) (omega arith))
-      ∙ sym (drop-rows_from n w c xs)
+      ∙ sym (drop-rows_from n w c xs ∙ ap (λ j. rows_from (w - j) c (drop (j * c) xs)) k)
 
   -- cells before a cut, copied to the front of another page
   pub front-moved : (cut : ℕ) (xs zs part : List C) → cut ≤ length xs → part ≡ take (cut - 0) xs → put_mid 0 (cut - 0) zs part ≡ put_row zs 0 (take cut xs)

@@ -3,7 +3,7 @@ ghost use Rattle.std.specs.Prelude.{◌≡◌, ◌+◌, ◌*◌, length, is_ok, 
 ghost use Rattle.memory.specs.Rows.{put_row};
 
 // What was to be written or moved does not fit.
-#[derive(Debug, Clone, Copy, PartialEq, Eq)]
+#[derive(Clone, Copy, Debug, PartialEq, Eq)]
 pub struct NoRoom;
 
 // Whether so many cells have room for so many rows.

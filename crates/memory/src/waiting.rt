@@ -7,7 +7,7 @@ use crate::{NoRoom, has_room, put_output};
 use cells::Cell;
 use join_types::ColumnIndex;
 
-// A page, and how many rows wait at its front.
+// A page, and how many rows wait at its front. The page is lent, so it is no Vec.
 #[derive(Drop)]
 pub struct WaitingRows<'a, C> {
     pub cells: &'a mut [C],

@@ -1,5 +1,5 @@
 -- What is known of the plan of a checked order.
-use Rattle.std.proofs.Common.{◌≡◌, ℕ, ◌<◌, true, arith}
+use Rattle.std.proofs.Common.{◌≡◌, ℕ, ◌<◌, true}
 use Rattle.std.specs.List.{AllByRecursion}
 use Rattle.std.proofs.lemmas.Bool.{and_parts, ltb-true}
 use Rattle.join_types.specs.declared.column.JoinSide.{JoinSide}
@@ -10,13 +10,13 @@ use Rattle.opening.proofs.Passing.{all_from_pass}
 
 left_has : (left right : ℕ) (s : JoinSide) (n : ℕ) → side_has left right s n ≡ true → s ≡ Left → n < left
 left_has left right Left n h e = ltb-true n left h
-left_has left right Right n h e = absurd (let z : ◌≡◌ {A = ℕ} 0 1 = cc in omega arith)
-left_has left right None n h e = absurd (let z : ◌≡◌ {A = ℕ} 0 1 = cc in omega arith)
+left_has left right Right n h e = absurd cc
+left_has left right None n h e = absurd cc
 
 right_has : (left right : ℕ) (s : JoinSide) (n : ℕ) → side_has left right s n ≡ true → s ≡ Right → n < right
 right_has left right Right n h e = ltb-true n right h
-right_has left right Left n h e = absurd (let z : ◌≡◌ {A = ℕ} 0 1 = cc in omega arith)
-right_has left right None n h e = absurd (let z : ◌≡◌ {A = ℕ} 0 1 = cc in omega arith)
+right_has left right Left n h e = absurd cc
+right_has left right None n h e = absurd cc
 
 module _ (l : ColumnList) (legal : is_legal l ≡ true) where
   all_there : are_there l.left_columns l.right_columns (columns_of l) ≡ true

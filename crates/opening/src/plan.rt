@@ -1,4 +1,4 @@
-// What a join keeps of its order, as plain data.
+// What a join keeps of its order, as plain data like all that it keeps; what holds of it is `Planned`.
 use crate::ColumnList;
 
 #[derive(Clone, Copy)]

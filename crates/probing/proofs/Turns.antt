@@ -1,14 +1,16 @@
 -- A turn of each loop: what is left then gives the same as before.
-use Rattle.std.proofs.Common.{◌≡◌, ℕ, suc, ◌+◌, ◌-◌, ◌<◌, ◌≤◌, min, List, [], ◌∷◌, length, get_or, take, drop, sym, ap, ◌∙◌, ap₂, ⊎_elim, arith}
+use Rattle.std.proofs.Common.{◌≡◌, ℕ, suc, ◌+◌, ◌-◌, ◌<◌, ◌≤◌, min, true, false, cond, List, [], ◌∷◌, length, get_or, take, drop, sym, ap, ◌∙◌, ap₂, ⊎_elim, arith}
 use Rattle.std.proofs.lemmas.List.{at_drop_more, drop_more, drop_all, take_all}
-use Rattle.std.proofs.lemmas.Bool.{cases_lt}
+use Rattle.std.proofs.lemmas.Bool.{cases_lt, cond-true, cond-false}
 use Rattle.memory.specs.Rows.{row_at, rows_in}
 use Rattle.memory.proofs.Cuts.{get_or-rows_from, length-rows_from}
-use Rattle.nested_loop.specs.Model.{Setup}
+use Rattle.memory.specs.Marks.{marked}
+use Rattle.nested_loop.specs.Model.{Setup, has_pairs}
+use Rattle.nested_loop.specs.Loop.{is_pair, output_row}
 use Rattle.memory.specs.declared.rows.Rows.{Rows}
-use Rattle.probing.specs.Lent.{stretch}
+use Rattle.probing.specs.Lent.{stretch, Waiting, appended}
 use Rattle.probing.specs.declared.pairs.PairMarks.{PairMarks}
-use Rattle.probing.specs.Met.{Met, met_pair, met_row, met_range, SameWords}
+use Rattle.probing.specs.Met.{Met, width, met_pair, met_row, met_range, SameWords}
 
 -- a stretch that has a first element, and one that has none
 pub stretch-more : {X : Type 0} (xs : List X) (i to : ℕ) (d : X) → i < to → i < length xs → stretch i to xs ≡ get_or xs i d ∷ stretch (i + 1) to xs
@@ -22,6 +24,9 @@ stretch-none {X} xs i to h =
     (λ (l : i < to). ap (take (to - i)) (drop_all i xs (omega arith)) ∙ take_all (to - i) [] (omega arith))
     (λ (l : to ≤ i). let z : to - i ≡ 0 = omega arith in ap (λ (m : ℕ). take m (drop i xs)) z)
     (cases_lt i to)
+
+abbrev met_by : {C : Type 0} → List ℕ → List ℕ → Waiting C → Met C
+met_by lefts rights waits = record { lefts = lefts; rights = rights; waits = waits }
 
 module _ {C : Type 0} (t : Rows C) where
   pub length-rows_in : length (rows_in t) ≡ t.count
@@ -45,6 +50,15 @@ module _ {C : Type 0} (t : Rows C) where
       let here : l ≡ get_or (rows_in t) i [] = e ∙ sym (rows_in_at i (omega arith)) in
       ap (met_range S (i + 1) (stretch (i + 1) to (rows_in t)) b) (f ∙ ap (λ (x : List C). met_row S i x 0 b m) here)
       ∙ sym (ap (λ (x : List (List C)). met_range S i x b m) (stretch-more (rows_in t) i to [] (omega arith) lt))
+
+-- a left and a right row, by whether they are a pair
+module _ {C : Type 0} (S : Setup C) (i j : ℕ) (l r : List C) (m : Met C) where
+  pub pair_met : (lefts rights : List ℕ) (waits : Waiting C) → is_pair S l r ≡ true → lefts ≡ marked m.lefts i → rights ≡ marked m.rights j →
+      waits ≡ cond (has_pairs S.join_type) (appended (width S) (output_row S l r S.missing) m.waits) m.waits → met_by lefts rights waits ≡ met_pair S i j l r m
+  pair_met lefts rights waits is a b w = (λ k. met_by (a k) (b k) (w k)) ∙ sym (cond-true (is_pair S l r) _ m is)
+
+  pub none_met : is_pair S l r ≡ false → m ≡ met_pair S i j l r m
+  none_met is = sym (cond-false (is_pair S l r) _ m is)
 
 -- words that stay in the same memory twice
 pub still_same : {a b c : PairMarks} → SameWords a b → SameWords b c → SameWords a c

@@ -86,6 +86,7 @@ impl JoinOutput<'_> {
         ensures page { waiting.new.cells.ghost_name ≡ waiting.old.cells.ghost_name }
         ensures appended { (S : Setup C) → RestsBy S C.Cell.missing C.Cell.yes C.Cell.no self.now → waits_in waiting.new ≡ rest_appended (width S) (side_rest S.join_type side) (side_row S side) (stretch range.start range.end (rows_in rows.now)) (stretch range.start range.end (bits_of rows.now.count marks.now)) (waits_in waiting.old) }
     {
+        // By number, since the marks go by it.
         for i in range.start..range.end.min(rows.count()) {
             self.append_row(side, rows.row(i), is_marked(marks, i), waiting);
         }

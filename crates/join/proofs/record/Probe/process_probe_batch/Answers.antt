@@ -8,14 +8,14 @@ use Rattle.join.specs.View.{setup_in}
 use Rattle.join.specs.Sound.{Placed, room_of}
 use Rattle.join.proofs.Quiet.{room_in, rows_first}
 use Rattle.join.proofs.Joining.{joined_few, joined_pairs, met_handles, met_seen}
-use Rattle.join.proofs.probe.process_probe_batch.Goals as goal
+use Rattle.join.proofs.record.Probe.process_probe_batch.Goals as goal
 
 pub returns : goal.returns
 returns g c =
     let a = c.args in
     let plan = a.plan.now in
-    let p = a.probe.now in
-    let S = setup_in g.V.Cell.Cell.missing g.V.Cell.Cell.yes g.V.Cell.Cell.no plan (g.V.Verdict.says a.verdict.now) a.left.now in
+    let p = a.self.now in
+    let S = setup_in g.V.Cell.Cell.missing g.V.Cell.Cell.yes g.V.Cell.Cell.no plan (g.V.Verdict.says a.lent.now.verdict.now) a.lent.now.left.now in
     let t = c.rows_joined.result in
     let e = c.process_left_range_join.ensures in
     let few : t ≤ plan.left_rows - p.index = rw c.rows_joined.ensures (joined_few plan p c.requires.more) in
@@ -27,14 +27,14 @@ returns g c =
     let is : t ≡ rows_met S (length (rows_from p.rows plan.list.right_columns a.right.now)) p.index =
     c.rows_joined.ensures
     ∙ ap₂ (λ x y. cond (ltb 10 (plan.batch_size / x)) (min (plan.batch_size / x) (y - p.index)) 1)
-    (sym (length-rows_from p.rows plan.list.right_columns a.right.now)) (sym (length-rows_from plan.left_rows plan.list.left_columns a.left.now)) in
+    (sym (length-rows_from p.rows plan.list.right_columns a.right.now)) (sym (length-rows_from plan.left_rows plan.list.left_columns a.lent.now.left.now)) in
     let words : length p.right_marks ≡ 16 = search rules in
     let P : NLJState → Type 0 = λ s. Placed s p.rows (p.index + t) plan.left_rows in
     let Q : NLJState → Type 0 = λ s. Placed s p.rows p.index plan.left_rows in
     let some = (subst Q c.requires.state c.requires.sound.placed).0 in
     let lefts = c.first-lefts.ensures in
     let rights = c.first-rights.ensures in
-    let table = rows_first c.first-lefts.result a.left.now plan.list.left_columns plan.left_rows lefts in
+    let table = rows_first c.first-lefts.result a.lent.now.left.now plan.list.left_columns plan.left_rows lefts in
     let batch = rows_first c.first-rights.result a.right.now plan.list.right_columns p.rows rights in
     record {
       answer = refl;

@@ -12,24 +12,24 @@ use Rattle.join.specs.Sound.{room_of}
 use Rattle.join.proofs.Quiet.{room_in, rows_first}
 use Rattle.join.proofs.Delivering.{rows_at}
 use Rattle.join.proofs.Handling.{sound_waiting, handles_by, at_state, delivers_at, delivered, appends}
-use Rattle.join.proofs.emit.handle_emit_right_unmatched.Goals as goal
+use Rattle.join.proofs.record.Probe.handle_emit_right_unmatched.Goals as goal
 
 pub deliver_rows-requires : goal.deliver_rows-requires
 deliver_rows-requires g c =
     let a = c.args in
     let plan = a.plan.now in
-    let p = a.probe.now in
+    let p = a.self.now in
     record {
       some = omega arith;
       lying = room_in p.waiting (room_of plan p.largest) plan.list.count (length a.waiting.now) c.requires.sound.waiting c.requires.room;
       room = c.requires.outs;
     }
 
-pub returns-then-probe-plan : goal.returns-then-probe-plan
-returns-then-probe-plan g c =
+pub returns-then-self-plan : goal.returns-then-self-plan
+returns-then-self-plan g c =
     let a = c.args in
     let plan = a.plan.now in
-    let p = a.probe.now in
+    let p = a.self.now in
     let e = c.deliver_rows.ensures in
     let lw = length-rows_from p.waiting plan.list.count a.waiting.now in
     let few : p.waiting - plan.batch_size ≤ room_of plan p.largest = omega (arith, c.requires.sound.waiting) in
@@ -47,7 +47,7 @@ pub returns : goal.returns
 returns g c =
     let a = c.args in
     let plan = a.plan.now in
-    let p = a.probe.now in
+    let p = a.self.now in
     let o = c.output_of.ensures in
     let e = c.process_right_unmatched.ensures in
     let k = c.process_right_unmatched.new.waiting.rows in

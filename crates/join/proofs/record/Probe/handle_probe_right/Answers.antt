@@ -10,25 +10,25 @@ use Rattle.join.specs.Handled.{around}
 use Rattle.join.specs.Sound.{room_of}
 use Rattle.join.proofs.Quiet.{room_in}
 use Rattle.join.proofs.Handling.{right-rest, sound_waiting, handles_by, handles_as, at_state, delivers_at, delivered, passes}
-use Rattle.join.proofs.probe.handle_probe_right.Goals as goal
+use Rattle.join.proofs.record.Probe.handle_probe_right.Goals as goal
 
 pub deliver_rows-requires : goal.deliver_rows-requires
 deliver_rows-requires g c =
     let a = c.args in
     let plan = a.plan.now in
-    let p = a.probe.now in
+    let p = a.self.now in
     record {
       some = omega arith;
       lying = room_in p.waiting (room_of plan p.largest) plan.list.count (length a.waiting.now) c.requires.sound.waiting c.requires.room;
       room = c.requires.outs;
     }
 
-pub returns-then-probe-plan : goal.returns-then-probe-plan
-returns-then-probe-plan g c =
+pub returns-then-self-plan : goal.returns-then-self-plan
+returns-then-self-plan g c =
     let a = c.args in
     let plan = a.plan.now in
-    let p = a.probe.now in
-    let S = setup_in g.V.Cell.Cell.missing g.V.Cell.Cell.yes g.V.Cell.Cell.no plan (g.V.Verdict.says a.verdict.now) a.left.now in
+    let p = a.self.now in
+    let S = setup_in g.V.Cell.Cell.missing g.V.Cell.Cell.yes g.V.Cell.Cell.no plan (g.V.Verdict.says a.lent.now.verdict.now) a.lent.now.left.now in
     let e = c.deliver_rows.ensures in
     let lw = length-rows_from p.waiting plan.list.count a.waiting.now in
     let few : p.waiting - plan.batch_size ≤ room_of plan p.largest = omega (arith, c.requires.sound.waiting) in
@@ -40,15 +40,15 @@ returns-then-probe-plan g c =
       sound = sound_waiting plan p _ (p.waiting - plan.batch_size) c.requires.sound few e.probe;
     }
 
-pub returns-then-probe-plan-2 : goal.returns-then-probe-plan-2
-returns-then-probe-plan-2 g c =
+pub returns-then-self-plan-2 : goal.returns-then-self-plan-2
+returns-then-self-plan-2 g c =
     let a = c.args in
     let plan = a.plan.now in
-    let p = a.probe.now in
-    let S = setup_in g.V.Cell.Cell.missing g.V.Cell.Cell.yes g.V.Cell.Cell.no plan (g.V.Verdict.says a.verdict.now) a.left.now in
+    let p = a.self.now in
+    let S = setup_in g.V.Cell.Cell.missing g.V.Cell.Cell.yes g.V.Cell.Cell.no plan (g.V.Verdict.says a.lent.now.verdict.now) a.lent.now.left.now in
     let e = c.process_probe_batch.ensures in
     let lw = length-rows_from p.waiting plan.list.count a.waiting.now in
-    let lt = length-rows_from plan.left_rows plan.list.left_columns a.left.now in
+    let lt = length-rows_from plan.left_rows plan.list.left_columns a.lent.now.left.now in
     record {
       handled = λ who most n items.
           let around-it = around a.left_marks.now n items a.right.now a.waiting.now a.out.now in
@@ -62,10 +62,10 @@ pub returns-then-need_produce_right_in_final : goal.returns-then-need_produce_ri
 returns-then-need_produce_right_in_final g c =
     let a = c.args in
     let plan = a.plan.now in
-    let p = a.probe.now in
-    let S = setup_in g.V.Cell.Cell.missing g.V.Cell.Cell.yes g.V.Cell.Cell.no plan (g.V.Verdict.says a.verdict.now) a.left.now in
+    let p = a.self.now in
+    let S = setup_in g.V.Cell.Cell.missing g.V.Cell.Cell.yes g.V.Cell.Cell.no plan (g.V.Verdict.says a.lent.now.verdict.now) a.lent.now.left.now in
     let lw = length-rows_from p.waiting plan.list.count a.waiting.now in
-    let lt = length-rows_from plan.left_rows plan.list.left_columns a.left.now in
+    let lt = length-rows_from plan.left_rows plan.list.left_columns a.lent.now.left.now in
     let rests : some_rest (right_rest_of plan.list.join_type) ≡ true = ap some_rest (sym (right-rest plan.list.join_type)) ∙ sym c.need_produce_right_in_final.ensures ∙ c.if-need_produce_right_in_final.true in
     record {
       handled = λ who most n items.
@@ -80,10 +80,10 @@ pub returns-else-need_produce_right_in_final : goal.returns-else-need_produce_ri
 returns-else-need_produce_right_in_final g c =
     let a = c.args in
     let plan = a.plan.now in
-    let p = a.probe.now in
-    let S = setup_in g.V.Cell.Cell.missing g.V.Cell.Cell.yes g.V.Cell.Cell.no plan (g.V.Verdict.says a.verdict.now) a.left.now in
+    let p = a.self.now in
+    let S = setup_in g.V.Cell.Cell.missing g.V.Cell.Cell.yes g.V.Cell.Cell.no plan (g.V.Verdict.says a.lent.now.verdict.now) a.lent.now.left.now in
     let lw = length-rows_from p.waiting plan.list.count a.waiting.now in
-    let lt = length-rows_from plan.left_rows plan.list.left_columns a.left.now in
+    let lt = length-rows_from plan.left_rows plan.list.left_columns a.lent.now.left.now in
     let rests : some_rest (right_rest_of plan.list.join_type) ≡ false = ap some_rest (sym (right-rest plan.list.join_type)) ∙ sym c.need_produce_right_in_final.ensures ∙ c.if-need_produce_right_in_final.false in
     record {
       handled = λ who most n items.

@@ -4,12 +4,12 @@ use Rattle.memory.specs.Rows.{put_row}
 use Rattle.join.specs.Handled.{with_waiting}
 use Rattle.join.proofs.Quiet.{room_in}
 use Rattle.join.proofs.Delivering.{out_is, rows_at}
-use Rattle.join.proofs.deliver.deliver_rows.Goals as goal
+use Rattle.join.proofs.record.Probe.deliver_rows.Goals as goal
 
 pub returns : goal.returns
 returns g c =
     let a = c.args in
-    let p = a.probe.now in
+    let p = a.self.now in
     let w = a.plan.now.list.count in
     let e = c.deliver.ensures in
     let did : is_ok c.deliver.result ≡ true =
