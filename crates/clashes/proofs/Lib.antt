@@ -1,3 +1,4 @@
 pub mod Listing
 pub mod Differences
 pub mod Songs
+pub mod Mapped

@@ -1,7 +1,8 @@
 -- Pairs listed row by row.
-use Rattle.std.proofs.Common.{◌≡◌, ℕ, zero, suc, ◌+◌, cond, List, [], ◌∷◌, ◌++◌, map, length, get_or, filter, sym, refl, ap, ◌∙◌, append_assoc, append-nil, arith}
+use Rattle.std.proofs.Common.{◌≡◌, ℕ, zero, suc, ◌+◌, cond, List, [], ◌∷◌, ◌++◌, map, length, get_or, filter, sym, refl, ap, ◌∙◌, append-nil, arith}
 use Rattle.std.specs.List.{range_with_len, flat_map}
 use Rattle.std.proofs.lemmas.List.Elements.{filter-append}
+use Rattle.std.proofs.lemmas.Grind.{flat_map-append}
 use Rattle.std.proofs.lemmas.List.FromFn.{filter_of_map_range_with_len_more}
 use Rattle.verdicts.specs.declared.truth.Truth.{Truth}
 use Rattle.verdicts.specs.Truths.{is_true}
@@ -12,10 +13,6 @@ use Rattle.clashes.specs.Pairs.{with_left, all_pairs, holds, row_pairs}
 counting_more : (a n : ℕ) → range_with_len a (suc n) ≡ range_with_len a n ++ (a + n) ∷ []
 counting_more a zero = ap (λ x. x ∷ []) (omega arith)
 counting_more a (suc n) = ap (λ x. a ∷ x) (counting_more (a + 1) n ∙ ap (λ x. range_with_len (a + 1) n ++ x ∷ []) (omega arith))
-
-joined_append : {X Y : Type 0} (f : X → List Y) (xs ys : List X) → flat_map f (xs ++ ys) ≡ flat_map f xs ++ flat_map f ys
-joined_append f [] ys = refl
-joined_append f (x ∷ xs) ys = ap (λ z. f x ++ z) (joined_append f xs ys) ∙ sym (append_assoc (f x) (flat_map f xs) (flat_map f ys))
 
 module _ {C : Type 0} (says : List C → List C → Truth) (ls rs : List (List C)) where
   -- the pairs of left row i, which is l, with the first j right rows
@@ -44,7 +41,7 @@ module _ {C : Type 0} (says : List C → List C → Truth) (ls rs : List (List C
       let split : all_pairs (i + 1) n ≡ all_pairs i n ++ with_left n i =
       ap (λ k. all_pairs k n) one
       ∙ ap (flat_map (with_left n)) (counting_more 0 i)
-      ∙ joined_append (with_left n) (range_with_len 0 i) ((0 + i) ∷ [])
+      ∙ flat_map-append (with_left n) (range_with_len 0 i) ((0 + i) ∷ [])
       ∙ ap (λ k. all_pairs i n ++ (with_left n k ++ [])) zero_more
       ∙ ap (λ z. all_pairs i n ++ z) (append-nil (with_left n i)) in
       ap (filter (holds says ls rs)) split

@@ -7,8 +7,8 @@ use Rattle.schedules.specs.Blocks.{first_block, second_block, good_rows}
 use Rattle.schedules.specs.Reads.{ReadSongs}
 use Rattle.schedules.specs.declared.songs.Songs.{Songs}
 use Rattle.clashes.specs.declared.answer.ClashLists.{ClashLists}
-use Rattle.clashes.specs.declared.answer.InputError.{InputError}
-use Rattle.clashes.specs.declared.answer.InputError.TheVariants.{Schedule, Log, NoMemory}
+use Rattle.clashes.specs.declared.error.InputError.{InputError}
+use Rattle.clashes.specs.declared.error.InputError.TheVariants.{Schedule, Log, NoMemory}
 use Rattle.clashes.specs.declared.answer.Lists.{Lists}
 use Rattle.clashes.specs.declared.loops.Pair.{Pair}
 use Rattle.clashes.specs.Pairs.{pairs_of, without}

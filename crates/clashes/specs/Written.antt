@@ -3,7 +3,7 @@ use Rattle.std.specs.Prelude.{◌≡◌, ℕ, true, List, pos, Ok, Err, Result}
 use Rattle.cells.specs.declared.full.Full.TheVariants.{Number}
 use Rattle.lines.specs.Written.{Writes}
 use Rattle.verdicts.specs.declared.minutes.Minutes.{Minutes}
-use Rattle.verdicts.specs.declared.minutes.MinutesRefusal.{MinutesRefusal}
+use Rattle.verdicts.specs.declared.refusal.MinutesRefusal.{MinutesRefusal}
 use Rattle.verdicts.specs.Lengths.{are_minutes}
 
 -- the text writes these minutes; where it is refused, it writes no number from 1 to 1,440

@@ -1,6 +1,6 @@
-// What the clash lists of a text are, or why there are none.
+// What the clash lists of a text are.
 use crate::Pair;
-use schedules::{SongError, Songs};
+use schedules::Songs;
 
 // The clashes at two separations, in order, and the difference of the two.
 #[derive(Drop)]
@@ -17,11 +17,4 @@ pub struct ClashLists {
     pub log: Songs,
     pub lines_before_gap: usize,
     pub lists: Lists,
-}
-
-#[derive(Clone, Copy)]
-pub enum InputError {
-    Schedule(SongError),
-    Log(SongError),
-    NoMemory,
 }

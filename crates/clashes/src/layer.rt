@@ -26,6 +26,6 @@ impl<V: Verdict, W: Verdict<Cell = V::Cell>> Verdict for Except<V, W> {
     fn ask(&self, left: &[V::Cell], right: &[V::Cell]) -> Truth {
         let of = self.of.ask(left, right);
         let but = self.but.ask(left, right);
-        Truth::of(of.is_true() && !but.is_true())
+        Truth::from(of.is_true() && !but.is_true())
     }
 }

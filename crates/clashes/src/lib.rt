@@ -2,13 +2,17 @@
 #![tactic(auto)]
 
 mod answer;
+mod error;
 mod layer;
 mod lists;
 mod loops;
 mod minutes;
+mod separations;
 
-pub use answer::{ClashLists, InputError, Lists};
+pub use answer::{ClashLists, Lists};
+pub use error::InputError;
 pub use layer::Except;
 pub use lists::{clash_lists, compare};
 pub use loops::{Pair, pairs, pairs_except};
 pub use minutes::read_minutes;
+pub use separations::Separations;

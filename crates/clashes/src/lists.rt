@@ -1,47 +1,36 @@
 // Both clash lists of a text, and what widening the separation changed.
-ghost use Rattle.std.specs.Prelude.{◌≡◌, ◌/◌, ◌%◌, length, IfOk};
+ghost use Rattle.std.specs.Prelude.{◌≡◌, ◌/◌, length, IfOk};
 ghost use Rattle.memory.specs.Rows.{rows_in, rows_from};
 ghost use Rattle.texts.specs.Items.{lines_of};
 ghost use Rattle.clashes.specs.Lists.{Listed, Compared};
 
-use crate::{ClashLists, InputError, Lists, pairs, pairs_except};
+use crate::{ClashLists, InputError, Lists, Separations, pairs, pairs_except};
 use cells::Full;
 use memory::Rows;
 use schedules::{find_gap, read_songs};
 use std::alloc::{AllocError, Global};
-use verdicts::{Minutes, Separation, SongColumns};
+use verdicts::{Separation, SongColumns};
 
 // The clash lists of the schedule and the log in a text, at two separations.
 pub fn clash_lists(
     heap: Global,
     text: &[u8],
-    first: Minutes,
-    second: Minutes,
+    separations: Separations,
 ) -> Result<ClashLists, InputError>
-    ensures { Listed (lines_of text.now) first.count second.count result }
+    ensures { Listed (lines_of text.now) separations.first.count separations.second.count result }
 {
     let gap = find_gap(text);
-    let end = gap.end;
-    let next = gap.next;
-    let schedule = match read_songs(heap, &text[0..end]) {
-        Ok(songs) => songs,
-        Err(error) => return Err(InputError::Schedule(error)),
-    };
-    let log = match read_songs(heap, &text[next..]) {
-        Ok(songs) => songs,
-        Err(error) => return Err(InputError::Log(error)),
-    };
-    let left = song_rows(schedule.cells.as_slice());
-    let right = song_rows(log.cells.as_slice());
-    match compare(heap, &left, &right, first, second) {
-        Ok(lists) => Ok(ClashLists {
-            schedule,
-            log,
-            lines_before_gap: gap.lines,
-            lists,
-        }),
-        Err(_) => Err(InputError::NoMemory),
-    }
+    let schedule = read_songs(heap, &text[..gap.end]).map_err(InputError::Schedule)?;
+    let log = read_songs(heap, &text[gap.next..]).map_err(InputError::Log)?;
+    let left = song_rows(&schedule.cells);
+    let right = song_rows(&log.cells);
+    let lists = compare(heap, &left, &right, separations)?;
+    Ok(ClashLists {
+        schedule,
+        log,
+        lines_before_gap: gap.lines,
+        lists,
+    })
 }
 
 // Both lists of two tables of songs, and what the second adds and drops.
@@ -49,13 +38,12 @@ pub fn compare(
     heap: Global,
     left: &Rows<Full>,
     right: &Rows<Full>,
-    first: Minutes,
-    second: Minutes,
+    separations: Separations,
 ) -> Result<Lists, AllocError>
-    ensures { IfOk result (Compared (rows_in left.now) (rows_in right.now) first.count second.count) }
+    ensures { IfOk result (Compared (rows_in left.now) (rows_in right.now) separations.first.count separations.second.count) }
 {
-    let near = Separation::new(first, SONG, SONG);
-    let wide = Separation::new(second, SONG, SONG);
+    let near = Separation::new(separations.first, SONG, SONG);
+    let wide = Separation::new(separations.second, SONG, SONG);
     Ok(Lists {
         first: pairs(heap, &near, left, right)?,
         second: pairs(heap, &wide, left, right)?,
@@ -72,11 +60,7 @@ const SONG: SongColumns = SongColumns {
 
 // Rows of two cells.
 fn song_rows(cells: &[Full]) -> Rows<'_, Full>
-    requires { length cells.now % 2 ≡ 0 }
     ensures { rows_in result ≡ rows_from (length cells.now / 2) 2 cells.now }
 {
-    match Rows::new(cells, 2) {
-        Ok(rows) => rows,
-        Err(_) => unreachable(),
-    }
+    Rows::first(cells, 2, cells.len() / 2)
 }

@@ -1,5 +1,5 @@
 // All pairs of a left and a right row, asked one by one, left row first.
-ghost use Rattle.std.specs.Prelude.{◌≡◌, ℕ, List, [], ◌∷◌, ◌++◌, IfOk, if◌then◌else◌, OnOk};
+ghost use Rattle.std.specs.Prelude.{◌≡◌, ◌++◌, IfOk, OnOk};
 ghost use Rattle.memory.specs.Rows.{rows_in};
 ghost use Rattle.clashes.specs.Pairs.{pairs_of, row_pairs, without};
 
@@ -9,13 +9,13 @@ use std::alloc::{AllocError, Global};
 use verdicts::Verdict;
 
 // A left and a right row, by their numbers from 0.
-#[derive(Clone, Copy, PartialEq)]
+#[derive(Clone, Copy, Debug, PartialEq, Eq)]
 pub struct Pair {
     pub left: usize,
     pub right: usize,
 }
 
-// The pairs of the inner nested loop, in its order.
+// The pairs of the inner nested loop, in its order. Rows are taken by number, since pairs name them so: an iterator would be counted again.
 pub fn pairs<V: Verdict>(
     heap: Global,
     verdict: &V,
@@ -42,17 +42,9 @@ fn add_row<V: Verdict>(
     ensures { OnOk result (found.new.items ≡ found.old.items ++ row_pairs (V.Verdict.says verdict.now) i row.now (rows_in right.now)) }
 {
     for j in 0..right.count() {
-        let clash = verdict.ask(row, right.row(j)).is_true();
-        add_if(found, clash, Pair { left: i, right: j })?;
-    }
-    Ok(())
-}
-
-fn add_if(found: &mut Vec<Pair>, clash: bool, pair: Pair) -> Result<(), AllocError>
-    ensures { OnOk result (found.new.items ≡ found.old.items ++ (if clash then pair ∷ [] else [])) }
-{
-    if clash {
-        found.push(pair)?;
+        if verdict.ask(row, right.row(j)).is_true() {
+            found.push(Pair { left: i, right: j })?;
+        }
     }
     Ok(())
 }

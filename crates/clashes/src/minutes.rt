@@ -1,9 +1,9 @@
 // Minutes from text, as a value line would write them.
-ghost use Rattle.std.specs.Prelude.{◌≡◌};
-ghost use Rattle.verdicts.specs.Separations.{number_in};
+ghost use Rattle.std.specs.Prelude.{ℤ, MatchOption};
+ghost use Rattle.cells.specs.declared.full.Full.TheVariants.{Number};
+ghost use Rattle.lines.specs.Written.{Writes};
 ghost use Rattle.clashes.specs.Written.{ReadMinutes};
 
-use cells::Full;
 use lines::read_cell;
 use verdicts::{Minutes, MinutesRefusal};
 
@@ -11,23 +11,18 @@ use verdicts::{Minutes, MinutesRefusal};
 pub fn read_minutes(text: &[u8]) -> Result<Minutes, MinutesRefusal>
     ensures { ReadMinutes text.now result }
 {
-    let Some(cell) = read_cell(text) else {
+    let Some(number) = read_number(text) else {
         return Err(MinutesRefusal::OutOfRange);
     };
-    let Some(n) = number_in(cell) else {
+    let Ok(count) = u32::try_from(number) else {
         return Err(MinutesRefusal::OutOfRange);
     };
-    if n < 1 || n > 1440 {
-        return Err(MinutesRefusal::OutOfRange);
-    }
-    Minutes::new(n as u32)
+    Minutes::try_from(count)
 }
 
-fn number_in(cell: Full) -> Option<i64>
-    ensures { result ≡ number_in cell }
+// The number that a text writes.
+fn read_number(text: &[u8]) -> Option<i64>
+    ensures { MatchOption result ((z : ℤ) → Writes (Number z) text.now → ⊥) (λ z. Writes (Number z) text.now) }
 {
-    match cell {
-        Full::Number(n) => Some(n),
-        Full::Missing | Full::Code(_) | Full::YesNo(_) => None,
-    }
+    read_cell(text)?.number()
 }

@@ -4,7 +4,7 @@ use cells::Full;
 use cells::Full::{Missing, Number, YesNo};
 use std::test::Fail;
 use verdicts::Truth::{Absent, False, True};
-use verdicts::{Minutes, Separation, SongColumns, Truth, Verdict};
+use verdicts::{Minutes, MinutesRefusal, Separation, SongColumns, Truth, Verdict};
 
 const AND: &[(Truth, Truth, Truth)] = &[
     (True, True, True),
@@ -34,11 +34,11 @@ fn truths_and_minutes(rt: HostRuntime) {
     for &(a, b, both) in AND {
         assert!(rt; a.and(b) == both && a.is_true() == (a == True));
     }
-    assert!(rt; Truth::of(true) == True && Truth::of(false) == False);
+    assert!(rt; Truth::from(true) == True && Truth::from(false) == False);
     for &(n, taken) in LENGTHS {
-        let right = match Minutes::new(n) {
-            Ok(m) => taken && m.count() == n && m.seconds() == n as u64 * 60,
-            Err(refusal) => !taken && refusal.number() == 15,
+        let right = match Minutes::try_from(n) {
+            Ok(m) => taken && m.count() == n && m.seconds() == u64::from(n) * 60,
+            Err(refusal) => !taken && refusal == MinutesRefusal::OutOfRange,
         };
         assert!(rt; right, "{}", n);
     }
@@ -100,10 +100,7 @@ const SONGS: &[(u32, &str, Option<i64>, &str, Option<i64>, Truth)] = &[
 ];
 
 fn number(n: Option<i64>) -> Full {
-    match n {
-        Some(n) => Number(n),
-        None => Missing,
-    }
+    n.map_or(Missing, Number)
 }
 
 #[test]
@@ -113,9 +110,7 @@ fn separations(rt: HostRuntime) -> Result<(), Fail> {
         start: 1,
     };
     for &(n, artist, start, other, at, want) in SONGS {
-        let Ok(minutes) = Minutes::new(n) else {
-            return Err(Fail::new(n));
-        };
+        let minutes = Minutes::try_from(n)?;
         let verdict = Separation::new(minutes, columns, columns);
         let left = [code(artist), number(start)];
         let right = [code(other), number(at)];
@@ -129,7 +124,7 @@ fn separations(rt: HostRuntime) -> Result<(), Fail> {
 
 // Whether a row with a song in columns 1 and 3 gets this verdict beside the song `A,0`, on either side, and none where no column exists.
 fn beside(row: &[Full], want: Truth) -> bool {
-    let Ok(minutes) = Minutes::new(40) else {
+    let Ok(minutes) = Minutes::try_from(40) else {
         return false;
     };
     let four = SongColumns {

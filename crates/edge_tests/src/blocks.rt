@@ -1,6 +1,7 @@
 // Tests of the two blocks of an input and their songs (docs/RULES.md, "The clash list program").
 use crate::common::{code, repeated};
 use cells::Full;
+use lines::LineRefusal;
 use schedules::{SongError, find_gap, read_songs};
 use std::alloc::Global;
 use std::test::Fail;
@@ -105,8 +106,14 @@ fn songs(rt: HostRuntime) -> Result<(), Fail> {
     Ok(())
 }
 
-// The lines passed by of the block below: how many lines stand before each, and its refusal's number.
-const NOTED: &[(usize, u8)] = &[(1, 17), (3, 17), (4, 18), (6, 18), (7, 17)];
+// The lines passed by of the block below: how many lines stand before each, and its refusal.
+const NOTED: &[(usize, LineRefusal)] = &[
+    (1, LineRefusal::Miscounted),
+    (3, LineRefusal::Miscounted),
+    (4, LineRefusal::Malformed),
+    (6, LineRefusal::Malformed),
+    (7, LineRefusal::Miscounted),
+];
 
 #[test]
 fn noted_lines(rt: HostRuntime) -> Result<(), Fail> {
@@ -124,12 +131,8 @@ fn noted_lines(rt: HostRuntime) -> Result<(), Fail> {
             assert!(rt;
                 songs.cells.as_slice() == cells.as_slice() && songs.passed.len() == NOTED.len()
             );
-            for (line, &(index, number)) in songs.passed.iter().zip(NOTED) {
-                assert!(rt;
-                    line.index == index && line.refusal.number() == number,
-                    "{}",
-                    index
-                );
+            for (line, &(index, refusal)) in songs.passed.iter().zip(NOTED) {
+                assert!(rt; line.index == index && line.refusal == refusal, "{}", index);
             }
             Ok(())
         }

@@ -2,7 +2,7 @@
 use crate::common::code;
 use cells::Place::{Missing, Row, YesNo};
 use cells::{Full, Place};
-use memory::{Rows, cell_at};
+use memory::{Rows, RowsRefusal, cell_at};
 use std::test::Fail;
 use verdicts::Truth::{Absent, False, True};
 use verdicts::{ByPlace, Constant, Minutes, Separation, SongColumns, Truth, TurnedAbout, Verdict};
@@ -22,9 +22,7 @@ fn always(truth: Truth) -> bool {
 #[test]
 fn constants_and_turns(rt: HostRuntime) -> Result<(), Fail> {
     assert!(rt; always(True) && always(False) && always(Absent));
-    let Ok(minutes) = Minutes::new(40) else {
-        return Err(Fail::new("minutes"));
-    };
+    let minutes = Minutes::try_from(40)?;
     let there = SongColumns {
         artist: 0,
         start: 1,
@@ -94,9 +92,7 @@ fn places(rt: HostRuntime) -> Result<(), Fail> {
     ) else {
         return Err(Fail::new("rows"));
     };
-    let Ok(minutes) = Minutes::new(40) else {
-        return Err(Fail::new("minutes"));
-    };
+    let minutes = Minutes::try_from(40)?;
     let columns = SongColumns {
         artist: 0,
         start: 1,
@@ -122,25 +118,27 @@ fn places(rt: HostRuntime) -> Result<(), Fail> {
     Ok(())
 }
 
-// Cells and columns, and how many rows they make, or 16 where they are refused.
-const TABLES: &[(usize, usize, Result<usize, u8>)] = &[
-    (0, 0, Err(16)),
+const REFUSED: Result<usize, RowsRefusal> = Err(RowsRefusal::NotWholeRows);
+
+// Cells and columns, and how many rows they make, where they are not refused.
+const TABLES: &[(usize, usize, Result<usize, RowsRefusal>)] = &[
+    (0, 0, REFUSED),
     (0, 1, Ok(0)),
     (0, 16, Ok(0)),
-    (0, 17, Err(16)),
+    (0, 17, REFUSED),
     (1, 1, Ok(1)),
-    (1, 2, Err(16)),
+    (1, 2, REFUSED),
     (2, 1, Ok(2)),
-    (3, 2, Err(16)),
-    (4, 0, Err(16)),
-    (15, 16, Err(16)),
+    (3, 2, REFUSED),
+    (4, 0, REFUSED),
+    (15, 16, REFUSED),
     (16, 16, Ok(1)),
-    (17, 16, Err(16)),
-    (17, 17, Err(16)),
-    (32, 15, Err(16)),
+    (17, 16, REFUSED),
+    (17, 17, REFUSED),
+    (32, 15, REFUSED),
     (32, 16, Ok(2)),
-    (32, 32, Err(16)),
-    (32, usize::MAX, Err(16)),
+    (32, 32, REFUSED),
+    (32, usize::MAX, REFUSED),
 ];
 
 #[test]
@@ -148,15 +146,15 @@ fn rows_in_memory(rt: HostRuntime) {
     let memory = [Full::Number(5); 32];
     for &(len, columns, want) in TABLES {
         let cells = &memory[0..len.min(32)];
-        let right = match (Rows::new(cells, columns), want) {
-            (Ok(rows), Ok(n)) => {
-                rows.count() == n
-                    && rows.row(n).len() == 0
-                    && rows.row(usize::MAX).len() == 0
+        let right = match Rows::new(cells, columns) {
+            Ok(rows) => {
+                let n = rows.count();
+                want == Ok(n)
+                    && rows.row(n).is_empty()
+                    && rows.row(usize::MAX).is_empty()
                     && (n == 0 || rows.row(n - 1).len() == columns)
             }
-            (Err(refusal), Err(number)) => refusal.number() == number,
-            _ => false,
+            Err(refusal) => want == Err(refusal),
         };
         assert!(rt; right, "{len} {columns}");
     }

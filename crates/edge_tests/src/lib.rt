@@ -16,4 +16,6 @@ mod printed;
 #[cfg(test)]
 mod reader;
 #[cfg(test)]
+mod refusals;
+#[cfg(test)]
 mod written;

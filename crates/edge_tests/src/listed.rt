@@ -1,10 +1,9 @@
 // Tests of minutes as text and of clash lists (docs/RULES.md, "The clash list program").
 use crate::common::repeated;
-use clashes::{InputError, Pair, clash_lists, read_minutes};
+use clashes::{InputError, Pair, Separations, clash_lists, read_minutes};
 use schedules::SongError;
-use std::alloc::Global;
 use std::test::Fail;
-use verdicts::Minutes;
+use verdicts::{Minutes, MinutesRefusal};
 
 // Texts, and the minutes that they write.
 const ARGUMENTS: &[(&str, Option<u32>)] = &[
@@ -43,7 +42,7 @@ fn minutes_written(rt: HostRuntime) {
     for &(text, want) in ARGUMENTS {
         let right = match read_minutes(text.as_bytes()) {
             Ok(minutes) => want == Some(minutes.count()),
-            Err(refusal) => want == None && refusal.number() == 15,
+            Err(refusal) => want == None && refusal == MinutesRefusal::OutOfRange,
         };
         assert!(rt; right, "{}", text);
     }
@@ -95,27 +94,23 @@ const LISTS: &[(&str, usize, u32, u32, [Pairs; 4])] = &[
 ];
 
 fn same(found: &[Pair], want: &[(usize, usize)]) -> bool {
-    if found.len() != want.len() {
-        return false;
-    }
-    for (pair, &(left, right)) in found.iter().zip(want) {
-        if pair.left != left || pair.right != right {
-            return false;
-        }
-    }
-    true
+    found
+        .iter()
+        .map(|pair| (pair.left, pair.right))
+        .eq(want.iter().copied())
+}
+
+fn separations(first: u32, second: u32) -> Result<Separations, MinutesRefusal> {
+    Ok(Separations {
+        first: Minutes::try_from(first)?,
+        second: Minutes::try_from(second)?,
+    })
 }
 
 #[test]
 fn lists(rt: HostRuntime) -> Result<(), Fail> {
     for &(text, lines, n, m, [first, second, added, dropped]) in LISTS {
-        let Ok(near) = Minutes::new(n) else {
-            return Err(Fail::new(n));
-        };
-        let Ok(wide) = Minutes::new(m) else {
-            return Err(Fail::new(m));
-        };
-        let right = match clash_lists(rt.alloc(), text.as_bytes(), near, wide) {
+        let right = match clash_lists(rt.alloc(), text.as_bytes(), separations(n, m)?) {
             Ok(found) => {
                 found.lines_before_gap == lines
                     && same(found.lists.first.as_slice(), first)
@@ -130,29 +125,16 @@ fn lists(rt: HostRuntime) -> Result<(), Fail> {
     Ok(())
 }
 
-// What a text is refused for, and whether its schedule is. Where the lists are made, none.
-fn refusal_of(heap: Global, text: &[u8]) -> Option<(bool, SongError)> {
-    let Ok(minutes) = Minutes::new(40) else {
-        return Some((true, SongError::NoMemory));
-    };
-    match clash_lists(heap, text, minutes, minutes) {
-        Ok(_) => None,
-        Err(InputError::Schedule(error)) => Some((true, error)),
-        Err(InputError::Log(error)) => Some((false, error)),
-        Err(InputError::NoMemory) => Some((true, SongError::NoMemory)),
-    }
-}
+const NO_SCHEDULE: Option<InputError> = Some(InputError::Schedule(SongError::NoNames));
 
-const NO_SCHEDULE: Option<(bool, SongError)> = Some((true, SongError::NoNames));
+const NO_LOG: Option<InputError> = Some(InputError::Log(SongError::NoNames));
 
-const NO_LOG: Option<(bool, SongError)> = Some((false, SongError::NoNames));
+const LONG_SCHEDULE: Option<InputError> = Some(InputError::Schedule(SongError::TooManyRows));
 
-const LONG_SCHEDULE: Option<(bool, SongError)> = Some((true, SongError::TooManyRows));
-
-const LONG_LOG: Option<(bool, SongError)> = Some((false, SongError::TooManyRows));
+const LONG_LOG: Option<InputError> = Some(InputError::Log(SongError::TooManyRows));
 
 // A text in three parts, the middle one a song that comes so many times, and what it is refused for.
-const INPUTS: &[(&str, usize, &str, Option<(bool, SongError)>)] = &[
+const INPUTS: &[(&str, usize, &str, Option<InputError>)] = &[
     ("", 0, "", NO_SCHEDULE),
     ("\n", 0, "", NO_SCHEDULE),
     ("\nartist,start\n", 1, "", NO_SCHEDULE),
@@ -180,7 +162,7 @@ fn inputs(rt: HostRuntime) -> Result<(), Fail> {
     for &(head, times, tail, want) in INPUTS {
         let text = repeated(rt.alloc(), head, "A,0\n", times, tail)?;
         assert!(rt;
-            refusal_of(rt.alloc(), text.as_slice()) == want,
+            clash_lists(rt.alloc(), text.as_slice(), separations(40, 40)?).err() == want,
             "{head:?} {times} {tail:?}"
         );
     }

@@ -1,7 +1,7 @@
 // Tests of the row reader and of passing lines (docs/RULES.md, "Lines of text").
-use crate::common::{END, ROW, answer_number, repeated};
+use crate::common::repeated;
 use cells::Full;
-use lines::{line_end, pass_line, read_row, row_text};
+use lines::{Answer, LineRefusal, line_end, pass_line, read_row, row_text};
 use std::alloc::{AllocError, Global};
 use std::test::Fail;
 use texts::next_line;
@@ -9,8 +9,18 @@ use texts::next_line;
 // A cell that no line writes.
 const OLD: Full = Full::YesNo(true);
 
+type Read = Result<Answer, LineRefusal>;
+
+const ROW: Read = Ok(Answer::Row);
+
+const END: Read = Ok(Answer::End);
+
+const MISCOUNTED: Read = Err(LineRefusal::Miscounted);
+
+const MALFORMED: Read = Err(LineRefusal::Malformed);
+
 // Text, cursor, columns, then the answer and the cursor after it.
-const READS: &[(&str, usize, usize, u8, usize)] = &[
+const READS: &[(&str, usize, usize, Read, usize)] = &[
     ("", 0, 1, END, 0),
     ("", 0, 2, END, 0),
     ("", 0, 0, END, 0),
@@ -21,7 +31,7 @@ const READS: &[(&str, usize, usize, u8, usize)] = &[
     ("A,1\n", 4, 2, END, 4),
     ("A,1\n", usize::MAX, 2, END, usize::MAX),
     ("\n", 0, 1, ROW, 1),
-    ("\n", 0, 2, 17, 0),
+    ("\n", 0, 2, MISCOUNTED, 0),
     ("\n", 1, 1, END, 1),
     ("\n\n", 0, 1, ROW, 1),
     ("\n\n", 1, 1, ROW, 2),
@@ -32,55 +42,50 @@ const READS: &[(&str, usize, usize, u8, usize)] = &[
     ("ABBA,0\nBLUR,", 7, 2, ROW, 12),
     ("ABBA,0\nBLUR,", 2, 2, ROW, 7),
     ("ABBA,0\nBLUR,", 6, 1, ROW, 7),
-    ("ABBA,0\nBLUR,", 0, 1, 17, 0),
-    ("ABBA,0\nBLUR,", 0, 3, 17, 0),
+    ("ABBA,0\nBLUR,", 0, 1, MISCOUNTED, 0),
+    ("ABBA,0\nBLUR,", 0, 3, MISCOUNTED, 0),
     ("yes,no", 0, 2, ROW, 6),
     (",", 0, 2, ROW, 1),
-    (",", 0, 1, 17, 0),
-    (",", 0, 3, 17, 0),
+    (",", 0, 1, MISCOUNTED, 0),
+    (",", 0, 3, MISCOUNTED, 0),
     (",\n", 0, 2, ROW, 2),
     (",,\n", 0, 3, ROW, 3),
     ("A,", 0, 2, ROW, 2),
     (",-5", 0, 2, ROW, 3),
     (",,,,,,,,,,,,,,,", 0, 16, ROW, 15),
-    (",,,,,,,,,,,,,,,", 0, 17, 17, 0),
-    ("A", 0, 0, 17, 0),
-    ("\n", 0, 0, 17, 0),
-    (",", 0, 0, 17, 0),
-    ("+", 0, 0, 17, 0),
-    ("+,+,+", 0, 2, 17, 0),
-    ("A-B", 0, 2, 17, 0),
-    ("01\nA,1", 0, 2, 17, 0),
-    ("A-B", 0, 1, 18, 0),
-    ("A-B,1\n", 0, 2, 18, 0),
-    ("A,01\n", 0, 2, 18, 0),
-    ("A,1\n+,2\n", 4, 2, 18, 4),
-    ("ABCDEFGHI,0", 0, 2, 18, 0),
-    ("A,1000000000000", 0, 2, 18, 0),
-    ("A, 1", 0, 2, 18, 0),
-    ("A;1", 0, 2, 17, 0),
-    ("A;1", 0, 1, 18, 0),
-    ("\"A,1\"", 0, 2, 18, 0),
-    ("A\t,1", 0, 2, 18, 0),
-    ("ABBA,0\r\n", 0, 2, 18, 0),
-    ("ABBA,\r\n", 0, 2, 18, 0),
-    ("A\r,0\n", 0, 2, 18, 0),
-    ("\r\n", 0, 1, 18, 0),
-    ("\r\n", 0, 2, 17, 0),
-    ("Ä,0\n", 0, 2, 18, 0),
-    ("Ä", 0, 2, 17, 0),
-    ("A¬B", 0, 2, 17, 0),
-    ("A,1\u{8A}", 0, 2, 18, 0),
-    ("A\0,1", 0, 2, 18, 0),
+    (",,,,,,,,,,,,,,,", 0, 17, MISCOUNTED, 0),
+    ("A", 0, 0, MISCOUNTED, 0),
+    ("\n", 0, 0, MISCOUNTED, 0),
+    (",", 0, 0, MISCOUNTED, 0),
+    ("+", 0, 0, MISCOUNTED, 0),
+    ("+,+,+", 0, 2, MISCOUNTED, 0),
+    ("A-B", 0, 2, MISCOUNTED, 0),
+    ("01\nA,1", 0, 2, MISCOUNTED, 0),
+    ("A-B", 0, 1, MALFORMED, 0),
+    ("A-B,1\n", 0, 2, MALFORMED, 0),
+    ("A,01\n", 0, 2, MALFORMED, 0),
+    ("A,1\n+,2\n", 4, 2, MALFORMED, 4),
+    ("ABCDEFGHI,0", 0, 2, MALFORMED, 0),
+    ("A,1000000000000", 0, 2, MALFORMED, 0),
+    ("A, 1", 0, 2, MALFORMED, 0),
+    ("A;1", 0, 2, MISCOUNTED, 0),
+    ("A;1", 0, 1, MALFORMED, 0),
+    ("\"A,1\"", 0, 2, MALFORMED, 0),
+    ("A\t,1", 0, 2, MALFORMED, 0),
+    ("ABBA,0\r\n", 0, 2, MALFORMED, 0),
+    ("ABBA,\r\n", 0, 2, MALFORMED, 0),
+    ("A\r,0\n", 0, 2, MALFORMED, 0),
+    ("\r\n", 0, 1, MALFORMED, 0),
+    ("\r\n", 0, 2, MISCOUNTED, 0),
+    ("Ä,0\n", 0, 2, MALFORMED, 0),
+    ("Ä", 0, 2, MISCOUNTED, 0),
+    ("A¬B", 0, 2, MISCOUNTED, 0),
+    ("A,1\u{8A}", 0, 2, MALFORMED, 0),
+    ("A\0,1", 0, 2, MALFORMED, 0),
 ];
 
 fn untouched(row: &[Full]) -> bool {
-    for cell in row {
-        if *cell != OLD {
-            return false;
-        }
-    }
-    true
+    row.iter().all(|cell| *cell == OLD)
 }
 
 // Reads once into a row of cells that no line writes. A row that was read prints as its line; otherwise it stays.
@@ -89,11 +94,11 @@ fn reads(
     text: &[u8],
     at: usize,
     row: &mut [Full],
-    answer: u8,
+    answer: Read,
     after: usize,
 ) -> Result<bool, AllocError> {
     let mut cursor = at;
-    let got = answer_number(read_row(text, &mut cursor, row));
+    let got = read_row(text, &mut cursor, row);
     if cursor != after || got != answer {
         return Ok(false);
     }
@@ -157,11 +162,11 @@ fn passed_lines(rt: HostRuntime) {
 }
 
 // A part that a long first line has many times, and the answers for one, two and three columns.
-const LONG: &[(&str, [u8; 3])] = &[
-    ("A", [17, 18, 17]),
-    ("7", [17, 18, 17]),
-    ("+", [17, 18, 17]),
-    (",", [17, 17, 17]),
+const LONG: &[(&str, [Read; 3])] = &[
+    ("A", [MISCOUNTED, MALFORMED, MISCOUNTED]),
+    ("7", [MISCOUNTED, MALFORMED, MISCOUNTED]),
+    ("+", [MISCOUNTED, MALFORMED, MISCOUNTED]),
+    (",", [MISCOUNTED; 3]),
 ];
 
 #[test]
@@ -196,13 +201,13 @@ fn long_lines(rt: HostRuntime) -> Result<(), Fail> {
 }
 
 // The answers of one line after another, with the cursor behind each and the row as it then is.
-const WALK: &[(u8, usize, &str)] = &[
-    (17, 1, "yes,yes"),
+const WALK: &[(Read, usize, &str)] = &[
+    (MISCOUNTED, 1, "yes,yes"),
     (ROW, 8, "ABBA,0"),
-    (17, 12, "ABBA,0"),
-    (18, 16, "ABBA,0"),
-    (18, 22, "ABBA,0"),
-    (17, 23, "ABBA,0"),
+    (MISCOUNTED, 12, "ABBA,0"),
+    (MALFORMED, 16, "ABBA,0"),
+    (MALFORMED, 22, "ABBA,0"),
+    (MISCOUNTED, 23, "ABBA,0"),
     (ROW, 25, ","),
     (ROW, 29, "Z,-5"),
     (END, 29, "Z,-5"),
@@ -216,7 +221,7 @@ fn next_lines(rt: HostRuntime) -> Result<(), Fail> {
     let mut cells = [OLD; 2];
     let row = &mut cells[0..2];
     for &(answer, after, shown) in WALK {
-        let got = answer_number(next_line(text, &mut cursor, row));
+        let got = next_line(text, &mut cursor, row);
         let printed = row_text(rt.alloc(), row)?;
         assert!(rt;
             got == answer && cursor == after && printed.as_str() == shown,

@@ -118,10 +118,7 @@ fn is_code(text: &[u8], bits: u64) -> bool {
     };
     let mut out = *b"????????";
     let n = code.write(&mut out);
-    let mut rest = true;
-    for b in &out[n..] {
-        rest = rest && *b == b'?';
-    }
+    let rest = out[n..].iter().all(|b| *b == b'?');
     code.bits() == bits && read_cell(text) == Some(Full::Code(code)) && &out[0..n] == text && rest
 }
 
@@ -156,7 +153,7 @@ fn same_codes(rt: HostRuntime) -> Result<(), Fail> {
             let Some(b) = Code::new(other.as_bytes()) else {
                 return Err(Fail::new(other));
             };
-            assert!(rt; a.same(b) == (text == other), "{}", text);
+            assert!(rt; (a == b) == (text == other), "{}", text);
         }
     }
     Ok(())

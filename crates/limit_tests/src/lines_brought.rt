@@ -4,7 +4,7 @@ use sources::SourceAnswer::Batch;
 use sources::{Fault, Present, Source, SourceAnswer};
 use std::alloc::{AllocError, Global};
 use std::test::Fail;
-use text_source::{TextColumns, TextRefusal, TextSource};
+use text_source::{TextRefusal, TextSource, text_columns};
 
 // Column counts, and the refusal's number, if there is one.
 const COLUMNS: &[(usize, Option<u8>)] = &[
@@ -18,7 +18,7 @@ const COLUMNS: &[(usize, Option<u8>)] = &[
 #[test]
 fn columns(rt: HostRuntime) {
     for &(columns, number) in COLUMNS {
-        let refused = TextColumns::check(columns).err().map(TextRefusal::number);
+        let refused = text_columns(columns).err().map(TextRefusal::number);
         assert_eq!(rt; refused, number, "{}", columns);
     }
 }
@@ -84,7 +84,7 @@ fn texts(rt: HostRuntime) -> Result<(), Fail> {
         let text = lines(rt.alloc(), times, tail)?;
         let mut asked = page(rt.alloc(), 128)?;
         let mut short = page(rt.alloc(), 127)?;
-        let columns = TextColumns::check(2).map_err(TextRefusal::number)?;
+        let columns = text_columns(2).map_err(TextRefusal::number)?;
         let mut source = TextSource::new(columns, text.as_slice());
         let right = is_refused(&mut source, short.as_mut_slice())
             && answers(&mut source, asked.as_mut_slice(), expected);
@@ -106,7 +106,7 @@ fn layers(rt: HostRuntime) -> Result<(), Fail> {
     for &(times, tail, expected) in LAYERS {
         let text = lines(rt.alloc(), times, tail)?;
         let mut asked = page(rt.alloc(), 128)?;
-        let columns = TextColumns::check(2).map_err(TextRefusal::number)?;
+        let columns = text_columns(2).map_err(TextRefusal::number)?;
         let below = Present::new(TextSource::new(columns, text.as_slice()), 0);
         let mut source = Present::new(below, 1);
         let right = answers(&mut source, asked.as_mut_slice(), expected);

@@ -15,17 +15,13 @@ fn marks(rt: HostRuntime) {
             assert!(rt; is_marked(&words, j) == (i == j && j < 128), "{}", j);
         }
         clear_marks(&mut words);
-        assert!(rt; words[0] == 0 && words[1] == 0, "{}", i);
+        assert_eq!(rt; words, [0; 2], "{}", i);
     }
 }
 
 // So many numbers, counted from one on. Rows of any values can be delivered.
 fn numbers(heap: Global, from: usize, count: usize) -> Result<Vec<usize>, AllocError> {
-    let mut cells = Vec::new(heap);
-    for i in 0..count {
-        cells.push(from.saturating_add(i))?;
-    }
-    Ok(cells)
+    (0..count).map(|i| from.saturating_add(i)).collect(heap)
 }
 
 // Waiting rows, how many are delivered, their width, cells of the waiting page and of the out page, and whether it is done.
@@ -54,18 +50,18 @@ fn delivered(rt: HostRuntime) -> Result<(), Fail> {
         let right = rows.deliver(first, width, out.as_mut_slice()).is_ok() == done;
         assert!(rt; right, "{count} {first} {width}");
         let cut = if done { first.saturating_mul(width) } else { 0 };
-        for i in 0..room {
+        for (i, &cell) in out.iter().enumerate() {
             let number = if i < cut { i } else { i.saturating_add(100) };
-            assert!(rt; out.get(i) == Some(&number), "{}", i);
+            assert_eq!(rt; cell, number, "{}", i);
         }
         let moved = if done {
             count.saturating_mul(width).saturating_sub(cut)
         } else {
             0
         };
-        for i in 0..cells {
+        for (i, &cell) in waiting.iter().enumerate() {
             let number = if i < moved { i.saturating_add(cut) } else { i };
-            assert!(rt; waiting.get(i) == Some(&number), "{}", i);
+            assert_eq!(rt; cell, number, "{}", i);
         }
     }
     Ok(())

@@ -52,6 +52,9 @@ only_number t u f c w = no_cell t (λ z. both_ways _ (ap (λ x. is_figure (get_o
 pub no_first : (t : List ℕ) → 1 ≤ length t → is_ascii_alphabetic (get_or t 0 0) ≡ false → is_figure (get_or t 0 0) ≡ false → (c : Full) → Writes c t → ⊥
 no_first t some u v c w = no_cell t (λ z. omega arith) (not_figures t v) (not_code t u) c w
 
+-- what read_cell needs of a first byte that begins nothing
+pub ruleset first_bytes = (nat_tests, no_first, only_number)
+
 -- after a minus
 pub no_minus : (t ds : List ℕ) → t ≡ 45 ∷ ds → ((n : ℕ) → Numeral ds → value ds ≡ suc n → ⊥) → (z : ℤ) → Figures z t → ⊥
 no_minus t ds e bad (pos n) k = let f = first_digit t k.0 in omega (arith, digit_in (get_or t 0 0) f, ap (λ x. get_or x 0 0) e)

@@ -43,6 +43,7 @@ fn number(text: &[u8]) -> Option<i64>
 }
 
 // The cell that a text stands for: its first character decides of which kind.
+#[tactic(auto, using(crate::proofs::Texts::first_bytes))]
 pub fn read_cell(text: &[u8]) -> Option<Full>
     ensures { MatchOption result ((c : Cell) → Writes c text.now → ⊥) (λ c. Writes c text.now) }
 {

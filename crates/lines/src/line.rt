@@ -27,6 +27,7 @@ pub(crate) fn stands(line: &[u8]) -> bool
 }
 
 // Fills a row with the cells of a line that stands for one.
+// The row is written by index: of what is written through `iter_mut` and `zip` a proof knows nothing afterwards.
 pub(crate) fn fill(line: &[u8], row: &mut [Full])
     requires count { commas line.now + 1 ≡ length row.old }
     requires stands { (any : List Cell) × Means any line.now }

@@ -9,14 +9,14 @@ use cells::Full;
 use std::fmt;
 
 // A row was read, or no byte is left. An answer is an enum, as those of a source and of a step.
-#[derive(Clone, Copy, PartialEq)]
+#[derive(Clone, Copy, PartialEq, Eq)]
 pub enum Answer {
     Row,
     End,
 }
 
 // The line has not as many cells as the row, or it has, and one of them is malformed.
-#[derive(Clone, Copy, PartialEq)]
+#[derive(Clone, Copy, PartialEq, Eq)]
 pub enum LineRefusal {
     Miscounted = 17,
     Malformed = 18,

@@ -1,5 +1,5 @@
 -- What a join is opened with, its rests, and counts that stop.
-use Rattle.std.specs.Prelude.{ℕ, min, Bool, true, false, not, List}
+use Rattle.std.specs.Prelude.{ℕ, Bool, true, false, not, List}
 pub use Rattle.join_types.specs.declared.kind.JoinType.{JoinType}
 pub use Rattle.join_types.specs.declared.kind.JoinType.TheVariants.{Inner, Left, Right, Full, LeftSemi, LeftAnti, LeftMark, RightSemi, RightAnti, RightMark}
 pub use Rattle.join_types.specs.declared.kind.Rest.{Rest}
@@ -8,6 +8,7 @@ pub use Rattle.join_types.specs.declared.column.JoinSide.{JoinSide}
 pub use Rattle.join_types.specs.declared.column.JoinSide.TheVariants.{Left as LeftSide, Right as RightSide, None as MarkSide}
 pub use Rattle.join_types.specs.declared.column.ColumnIndex.{ColumnIndex}
 pub use Rattle.join_types.specs.Types.{has_pairs, left_rest_of, mirror, some_rest, other_side, swapped}
+pub use Rattle.memory.specs.Counts.{limit, counted}
 pub use Rattle.memory.specs.Items.{Item, batch, wait, fault}
 pub use Rattle.verdicts.specs.declared.truth.Truth.{Truth}
 pub use Rattle.verdicts.specs.Truths.{is_true}
@@ -22,13 +23,6 @@ kept nothing b = false
 kept unmatched b = not b
 kept matched b = b
 kept every b = true
-
--- counts stop at the largest number of 64 bits
-abbrev pub limit : ℕ
-limit = 18446744073709551615
-
-abbrev pub counted : ℕ → ℕ
-counted n = min n limit
 
 -- what a join is opened with
 pub record Setup (C : Type 0) : Type 0 where

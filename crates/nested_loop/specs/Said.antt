@@ -1,7 +1,8 @@
 -- What is seen of a run, and all that is promised of it, together. Promises.antt has each promise by itself.
-use Rattle.std.specs.Prelude.{◌≡◌, ℕ, suc, ◌+◌, ◌-◌, ◌*◌, ◌/◌, ◌≤◌, max, Bool, true, cond, List, [], ◌∷◌, ◌++◌, length, take, Ok, Err, Result, ◌==◌}
+use Rattle.std.specs.Prelude.{◌≡◌, ℕ, suc, ◌+◌, ◌-◌, ◌*◌, ◌≤◌, max, Bool, true, cond, List, [], ◌∷◌, ◌++◌, length, take, Ok, Err, Result, ◌==◌}
 use Rattle.std.specs.List.Sorted.{IsPermutation}
 use Rattle.std.specs.List.{flat_map, AllByRecursion}
+pub use Rattle.memory.specs.Counts.{parts as ceil}
 use Rattle.nested_loop.specs.Model.{Setup, Item, batch, wait, fault, counted}
 use Rattle.nested_loop.specs.Loop.{any, right_rows, nested, item_rows, left_rest_rows}
 use Rattle.nested_loop.specs.Machine.{Outcome, refused, on, delivers, waits, faults, says_done, is_done, is_batch, rows_in, opened, after, answers, answers_of, told_of, emitter, Join, Tally, all_probes_done, waiting_at, Answer, On, Batch, Wait, Fault, IsDone, StepRefusal}
@@ -18,10 +19,6 @@ full_batches (fault c d ∷ is) = full_batches is
 abbrev pub batches_in : {C : Type 0} → List (Outcome C) → ℕ
 batches_in [] = 0
 batches_in (a ∷ xs) = cond (is_batch a) 1 0 + batches_in xs
-
--- the quotient, rounded up
-abbrev pub ceil : ℕ → ℕ → ℕ
-ceil x b = (x + (b - 1)) / b
 
 -- the batches among the outcomes
 abbrev pub batches_of : {C : Type 0} → List (Outcome C) → List (List (List C))

@@ -10,7 +10,7 @@ use Rattle.memory.specs.Rows.{put_row}
 use Rattle.opening.specs.declared.list.ColumnList.{ColumnList}
 use Rattle.opening.specs.declared.refusal.OpenRefusal.{OpenRefusal}
 use Rattle.opening.specs.declared.refusal.OpenRefusal.TheVariants.{TooManyColumns, NoSuchColumn, SideNotAllowed}
-use Rattle.opening.specs.Refusals.{first_of}
+use Rattle.memory.specs.Conditions.{first_of}
 
 -- the columns of a list: those in the first of its places
 abbrev pub columns_of : ColumnList → List ColumnIndex

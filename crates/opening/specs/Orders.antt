@@ -9,7 +9,7 @@ use Rattle.opening.specs.declared.plan.Plan.{Plan}
 use Rattle.opening.specs.declared.refusal.OpenRefusal.{OpenRefusal}
 use Rattle.opening.specs.declared.refusal.OpenRefusal.TheVariants.{Probes, BatchSize, RightColumns}
 use Rattle.opening.specs.Lists.{columns_of, list_conditions, is_legal}
-use Rattle.opening.specs.Refusals.{first_of}
+use Rattle.memory.specs.Conditions.{first_of}
 
 -- is a number one of 1 to most
 abbrev pub up_to : ℕ → ℕ → Bool

@@ -1,5 +1,5 @@
--- Refusals of opening by number, and the first that fits.
-use Rattle.std.specs.Prelude.{ℕ, Bool, cond, List, [], ◌∷◌, Some, None, Option}
+-- Refusals of opening by number.
+use Rattle.std.specs.Prelude.{ℕ}
 use Rattle.opening.specs.declared.refusal.OpenRefusal.{OpenRefusal}
 use Rattle.opening.specs.declared.refusal.OpenRefusal.TheVariants.{Probes, BatchSize, RightColumns, TooManyColumns, NoSuchColumn, SideNotAllowed}
 
@@ -11,8 +11,3 @@ number_of RightColumns = 6
 number_of TooManyColumns = 7
 number_of NoSuchColumn = 8
 number_of SideNotAllowed = 9
-
--- of refusals with their conditions, the smallest first, the first whose condition fits
-abbrev pub first_of : List (Bool × OpenRefusal) → Option OpenRefusal
-first_of [] = None
-first_of (c ∷ cs) = cond c.0 (Some c.1) (first_of cs)

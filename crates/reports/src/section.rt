@@ -1,97 +1,98 @@
 // The parts of a report: songs that were read, lines that were passed by, and lists of clashes.
-ghost use Rattle.std.specs.Prelude.{◌≡◌, ◌++◌, IfOk, string_bytes, OnOk};
-ghost use Rattle.reports.specs.Texts.{clash_line, clash_lines, refused_line, passed_lines, head_line, songs_text};
+ghost use Rattle.std.specs.Prelude.{◌≡◌, ◌++◌, Some, length, codes, decimal, vec_items};
+ghost use Rattle.reports.specs.Texts.{clash_line, clash_lines, refused_line, passed_lines, songs_text};
 
-use cells::Full;
-use clashes::Pair;
-use lines::{LineRefusal, row_text};
+use clashes::{ClashLists, Pair};
+use lines::{Line, LineRefusal};
 use memory::row_at;
 use schedules::{PassedLine, Songs};
-use std::alloc::{AllocError, Global};
+use std::fmt;
 
 // A planned and an aired song.
-fn clash_line(heap: Global, planned: &[Full], aired: &[Full]) -> Result<String, AllocError>
-    ensures { IfOk result (λ s. string_bytes s ≡ clash_line planned.now aired.now) }
-{
-    let song = row_text(heap, planned)?;
-    let other = row_text(heap, aired)?;
-    format!(in heap; "   planned {song}, aired {other}\n")
+#[derive(Clone, Copy)]
+struct ClashLine<'a> {
+    planned: Line<'a>,
+    aired: Line<'a>,
 }
 
-// A line that was passed by, by its number in the text, with the refusal's number and words.
-fn passed_line(
-    heap: Global,
+impl fmt::Display for ClashLine<'_> {
+    ghost output = { λ c. Some (clash_line c.planned.cells.now c.aired.cells.now) };
+
+    fn fmt<W: fmt::Write>(&self, f: &mut fmt::Formatter<W>) -> fmt::Result {
+        let planned = self.planned;
+        let aired = self.aired;
+        write!(f, "   planned {planned}, aired {aired}\n")
+    }
+}
+
+// How many clashes there are, and a line for each.
+#[derive(Clone, Copy)]
+pub(crate) struct Clashes<'a> {
+    pub lists: &'a ClashLists,
+    pub pairs: &'a [Pair],
+}
+
+impl fmt::Display for Clashes<'_> {
+    ghost output = { λ c. Some ((decimal (length c.pairs.now) ++ codes ".\n") ++ clash_lines (vec_items c.lists.now.schedule.cells) (vec_items c.lists.now.log.cells) c.pairs.now) };
+
+    fn fmt<W: fmt::Write>(&self, f: &mut fmt::Formatter<W>) -> fmt::Result {
+        let count = self.pairs.len();
+        write!(f, "{count}.\n")?;
+        for pair in self.pairs {
+            let planned = Line {
+                cells: row_at(&self.lists.schedule.cells, 2, pair.left),
+            };
+            let aired = Line {
+                cells: row_at(&self.lists.log.cells, 2, pair.right),
+            };
+            f.write(ClashLine { planned, aired })?;
+        }
+        Ok(())
+    }
+}
+
+// A line that was passed by, by its number in the text.
+#[derive(Clone, Copy)]
+struct RefusedLine {
     place: usize,
-    number: u8,
-    words: LineRefusal,
-) -> Result<String, AllocError>
-    ensures { IfOk result (λ s. string_bytes s ≡ refused_line place number words) }
-{
-    format!(in heap; "   line {place}: refused with {number}: {words}\n")
+    refusal: LineRefusal,
 }
 
-// How many songs a block brought, and how many of its lines were passed by.
-fn head_line(heap: Global, head: &str, songs: usize, passed: usize) -> Result<String, AllocError>
-    ensures { IfOk result (λ s. string_bytes s ≡ head_line head.now songs passed) }
-{
-    format!(in heap; "{head}. Songs: {songs}. Lines passed by: {passed}.\n")
-}
+impl fmt::Display for RefusedLine {
+    ghost use Rattle.lines.specs.Rows.{number_of};
 
-// Adds a text to a report.
-pub(crate) fn add(out: &mut String, text: String) -> Result<(), AllocError>
-    ensures { OnOk result (string_bytes out.new ≡ string_bytes out.old ++ string_bytes text) }
-{
-    out.push_str(text.as_str())
-}
+    ghost output = { λ l. Some (refused_line l.place (number_of l.refusal) l.refusal) };
 
-// Adds a line for each clash.
-pub(crate) fn add_clashes(
-    heap: Global,
-    out: &mut String,
-    planned: &[Full],
-    aired: &[Full],
-    pairs: &[Pair],
-) -> Result<(), AllocError>
-    ensures { OnOk result (string_bytes out.new ≡ string_bytes out.old ++ clash_lines planned.now aired.now pairs.now) }
-{
-    for pair in pairs {
-        let song = row_at(planned, 2, pair.left);
-        let other = row_at(aired, 2, pair.right);
-        let text = clash_line(heap, song, other)?;
-        add(out, text)?;
+    fn fmt<W: fmt::Write>(&self, f: &mut fmt::Formatter<W>) -> fmt::Result {
+        let place = self.place;
+        let refusal = self.refusal;
+        let number = refusal.number();
+        write!(f, "   line {place}: refused with {number}: {refusal}\n")
     }
-    Ok(())
 }
 
-// Adds a line for each line that was passed by.
-fn add_passed(
-    heap: Global,
-    out: &mut String,
-    first: usize,
-    passed: &[PassedLine],
-) -> Result<(), AllocError>
-    ensures { OnOk result (string_bytes out.new ≡ string_bytes out.old ++ passed_lines first passed.now) }
-{
-    for line in passed {
-        let place = first.saturating_add(line.index);
-        let text = passed_line(heap, place, line.refusal.number(), line.refusal)?;
-        add(out, text)?;
+// What was read of a block whose first line has a number in the text: how many songs, and the lines that were passed by.
+#[derive(Clone, Copy)]
+pub(crate) struct SongsRead<'a> {
+    pub head: &'static str,
+    pub songs: &'a Songs,
+    pub first: usize,
+}
+
+impl fmt::Display for SongsRead<'_> {
+    ghost output = { λ s. Some (songs_text s.head.now s.songs.now s.first) };
+
+    fn fmt<W: fmt::Write>(&self, f: &mut fmt::Formatter<W>) -> fmt::Result {
+        let head = self.head;
+        let songs = self.songs.cells.len() / 2;
+        let passed = self.songs.passed.len();
+        write!(f, "{head}. Songs: {songs}. Lines passed by: {passed}.\n")?;
+        for line in &self.songs.passed {
+            f.write(RefusedLine {
+                place: self.first.saturating_add(line.index),
+                refusal: line.refusal,
+            })?;
+        }
+        Ok(())
     }
-    Ok(())
-}
-
-// Adds what was read of a block.
-pub(crate) fn add_songs(
-    heap: Global,
-    out: &mut String,
-    head: &str,
-    songs: &Songs,
-    first: usize,
-) -> Result<(), AllocError>
-    ensures { OnOk result (string_bytes out.new ≡ string_bytes out.old ++ songs_text head.now songs.now first) }
-{
-    let text = head_line(heap, head, songs.cells.len() / 2, songs.passed.len())?;
-    add(out, text)?;
-    add_passed(heap, out, first, songs.passed.as_slice())?;
-    Ok(())
 }

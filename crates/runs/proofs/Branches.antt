@@ -10,7 +10,8 @@ use Rattle.nested_loop.specs.Machine.{on, FetchingRight, ProbeRight, EmitRightUn
 use Rattle.nested_loop.specs.declared.answer.StepRefusal.{StepRefusal}
 use Rattle.nested_loop.specs.declared.answer.StepRefusal.TheVariants.{NoSuchProbe, LeftTooShort, OtherColumns, PageTooShort}
 use Rattle.runs.specs.Records.{Call, view_at}
-use Rattle.runs.specs.Calls.{Moves, call_handled, first_of, refusal_of, short_page}
+use Rattle.memory.specs.Conditions.{first_of}
+use Rattle.runs.specs.Calls.{Moves, call_handled, refusal_of, short_page}
 
 module _ {C : Type 0} (S : Setup C) (bits : List Bool) (n : ℕ) (w : List (List C)) (is : List (Item C)) where
   abbrev L : ℕ

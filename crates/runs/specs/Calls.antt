@@ -1,8 +1,9 @@
 -- What one call of step does: when it is refused, and what it leaves where it is accepted.
-use Rattle.std.specs.Prelude.{◌≡◌, ℕ, ◌+◌, ◌-◌, ◌*◌, max, Bool, cond, not, ◌&&◌, ◌||◌, List, [], ◌∷◌, ◌++◌, length, drop, Some, None, Err, Option, ◌==◌, nat_le, nat_lt, slice_set}
+use Rattle.std.specs.Prelude.{◌≡◌, ℕ, ◌+◌, ◌-◌, ◌*◌, max, Bool, not, ◌&&◌, ◌||◌, List, [], ◌∷◌, ◌++◌, length, drop, Some, None, Err, Option, ◌==◌, nat_le, nat_lt, slice_set}
 use Rattle.memory.specs.Items.{Item}
 use Rattle.memory.specs.Rows.{rows_from, cells_of}
 use Rattle.verdicts.specs.declared.truth.Truth.{Truth}
+use Rattle.memory.specs.Conditions.{first_of}
 use Rattle.nested_loop.specs.Model.{Setup}
 use Rattle.nested_loop.specs.Machine.{State, FetchingRight, ProbeRight, EmitRightUnmatched, ProbeEnd, EmitLeftUnmatched, Done, Probe, Handled, handle, asks, rows_in, become, tallied, told}
 use Rattle.nested_loop.specs.declared.answer.StepRefusal.{StepRefusal}
@@ -40,11 +41,6 @@ probe_of o v items right waiting = record {
   taken = v.taken;
   answered = v.answered;
 }
-
--- of conditions with refusals, the smallest number first, the first that fits
-abbrev pub first_of : {X : Type 0} → List (Bool × X) → Option X
-first_of [] = None
-first_of (x ∷ xs) = cond x.0 (Some x.1) (first_of xs)
 
 -- how many rows may wait, the largest batch being so many rows
 abbrev pub room_for : Terms → ℕ → ℕ

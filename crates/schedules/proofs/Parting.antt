@@ -1,9 +1,11 @@
 -- Walking over the lines of a text up to the first empty one.
-use Rattle.std.proofs.Common.{◌≡◌, ℕ, zero, suc, ◌+◌, ◌<◌, ◌≤◌, Bool, true, false, cond, not, eqb, ◌⊎◌, List, [], ◌∷◌, ◌++◌, length, get_or, take, drop, sym, refl, ap, ◌∙◌, inl, inr, ⊎_elim, append_assoc, append-nil, arith, length-drop, length-take}
+use Rattle.std.proofs.Common.{◌≡◌, ℕ, zero, suc, ◌+◌, ◌<◌, ◌≤◌, Bool, true, false, cond, not, eqb, ◌⊎◌, List, [], ◌∷◌, ◌++◌, length, get_or, take, drop, sym, subst, refl, ap, ◌∙◌, inl, inr, ⊎_elim, append_assoc, append-nil, arith, length-drop, length-take}
 use Rattle.std.specs.List.{prefix_len}
 use Rattle.std.proofs.lemmas.List.{drop_all, take_all, take_more, drop-drop}
-use Rattle.std.proofs.lemmas.List.Sums.{prefix_len-le-length, prefix_len-drop_yes, prefix_len-drop_no}
-use Rattle.std.proofs.lemmas.Bool.{eq-eqb, ne_eqb, eqb-true, cases_lt}
+use Rattle.std.proofs.lemmas.List.Sums.{prefix_len_stops, prefix_len-le-length}
+use Rattle.std.proofs.Math.Seq.{take-append_seam, drop-append-add}
+use Rattle.std.proofs.lemmas.List.Folds.{length-prefix_len}
+use Rattle.std.proofs.lemmas.Bool.{not-false, eqb-true, cases_lt}
 use Rattle.lines.specs.Written.{before, unlike, line_at, behind}
 use Rattle.texts.specs.Items.{lines_of}
 use Rattle.texts.proofs.Firsts.{lines_first, left_behind}
@@ -28,27 +30,19 @@ feed_first : (ds x : List ℕ) → before 10 ds < length ds → before 10 (take 
 feed_first [] x h = absurd (omega arith)
 feed_first (d ∷ ds) x h = feed_step d ds x (eqb d 10) refl (feed_first ds x) h
 
-take-front : (n : ℕ) (xs ys : List ℕ) → n ≤ length xs → take n (take n xs ++ ys) ≡ take n xs
-take-front zero xs ys h = refl
-take-front (suc n) [] ys h = absurd (omega arith)
-take-front (suc n) (x ∷ xs) ys h = ap (λ l. x ∷ l) (take-front n xs ys (omega arith))
-
-drop-front : (n : ℕ) (xs : List ℕ) (y : ℕ) (ys : List ℕ) → n ≤ length xs → drop (suc n) (take n xs ++ y ∷ ys) ≡ ys
-drop-front zero xs y ys h = refl
-drop-front (suc n) [] y ys h = absurd (omega arith)
-drop-front (suc n) (x ∷ xs) y ys h = drop-front n xs y ys (omega arith)
-
 -- a line with its line feed, and more behind it
 line_more : (ds x : List ℕ) → before 10 ds < length ds → lines_of (take (before 10 ds) ds ++ 10 ∷ x) ≡ take (before 10 ds) ds ∷ lines_of x
 line_more ds x h =
     let m = before 10 ds in
     let all = take m ds ++ 10 ∷ x in
     let f = feed_first ds x h in
+    let next : suc m ≡ length (take m ds) + 1 = omega (arith, length-prefix_len (unlike 10) ds) in
+    let long : length (take m ds) ≡ m = length-prefix_len (unlike 10) ds in
     let some : 0 < length all = not-nil (take m ds) x in
     lines_first all some
     ∙ ap (λ n. take n all ∷ lines_of (drop (suc n) all)) f
-    ∙ ap (λ l. l ∷ lines_of (drop (suc m) all)) (take-front m ds (10 ∷ x) (omega arith))
-    ∙ ap (λ l. take m ds ∷ lines_of l) (drop-front m ds 10 x (omega arith))
+    ∙ ap (λ l. l ∷ lines_of (drop (suc m) all)) (ap (λ n. take n all) (sym long) ∙ take-append_seam (take m ds) (10 ∷ x))
+    ∙ ap (λ l. take m ds ∷ lines_of l) (ap (λ n. drop n all) next ∙ drop-append-add (take m ds) (10 ∷ x) 1)
   where
     not-nil : (xs ys : List ℕ) → 0 < length (xs ++ 10 ∷ ys)
     not-nil [] ys = omega arith
@@ -57,19 +51,20 @@ line_more ds x h =
 -- n lines that are not empty lie before the place, and the other lines begin there
 pub record Walked (text : List ℕ) (at n : ℕ) : Type 0 where
   pub within : at ≤ length text
-  pub few : n ≤ at
   pub count : n + prefix_len is_full (lines_of (drop at text)) ≡ prefix_len is_full (lines_of text)
   pub from_it : lines_of (drop at text) ≡ drop n (lines_of text)
   -- the text is at its end, or a line begins here whatever follows
   pub parted : (at ≡ length text) ⊎ ((x : List ℕ) → lines_of (take at text ++ x) ≡ take n (lines_of text) ++ lines_of x)
 
 pub walked_none : (text : List ℕ) → Walked text 0 0
-walked_none text = record { within = omega arith; few = omega arith; count = omega arith; from_it = refl; parted = inr (λ x. refl) }
+walked_none text = record { within = omega arith; count = omega arith; from_it = refl; parted = inr (λ x. refl) }
 
-full_take : (m : ℕ) (ds : List ℕ) → 0 < m → 0 < length ds → is_full (take m ds) ≡ true
-full_take zero ds h k = absurd (omega arith)
-full_take (suc m) [] h k = absurd (omega arith)
-full_take (suc m) (d ∷ ds) h k = refl
+pub walked_at : (text : List ℕ) (at n next m : ℕ) → next ≡ at → m ≡ n → Walked text at n → Walked text next m
+walked_at text at n next m a b w = subst (λ k. Walked text k m) (sym a) (subst (Walked text at) (sym b) w)
+
+pub full_some : (l : List ℕ) → 0 < length l → is_full l ≡ true
+full_some [] h = absurd (omega arith)
+full_some (b ∷ bs) h = refl
 
 -- what lies up to the place behind a line that ends with a line feed
 take_behind : (text : List ℕ) (at m : ℕ) → m < length (drop at text) → get_or (drop at text) m 0 ≡ 10 → take (at + m + 1) text ≡ take at text ++ (take m (drop at text) ++ 10 ∷ [])
@@ -83,13 +78,8 @@ take_behind (t ∷ ts) (suc at) m h e =
     ap (λ n. take n (t ∷ ts)) s ∙ ap (λ l. t ∷ l) (take_behind ts at m h e)
 
 -- the byte at the first line feed
-at_feed_step : (d : ℕ) (ds : List ℕ) (t : Bool) → eqb d 10 ≡ t → (before 10 ds < length ds → get_or ds (before 10 ds) 0 ≡ 10) → cond (not t) (1 + before 10 ds) 0 < suc (length ds) → get_or (d ∷ ds) (cond (not t) (1 + before 10 ds) 0) 0 ≡ 10
-at_feed_step d ds true e more l = eqb-true d 10 e
-at_feed_step d ds false e more l = let one : 1 + before 10 ds ≡ suc (before 10 ds) = omega arith in ap (λ n. get_or (d ∷ ds) n 0) one ∙ more (omega arith)
-
 at_feed : (ds : List ℕ) → before 10 ds < length ds → get_or ds (before 10 ds) 0 ≡ 10
-at_feed [] h = absurd (omega arith)
-at_feed (d ∷ ds) h = at_feed_step d ds (eqb d 10) refl (at_feed ds) h
+at_feed ds h = eqb-true _ _ (not-false _ (prefix_len_stops (unlike 10) ds 0 h))
 
 take_more_first : (k : ℕ) (ls : List (List ℕ)) (l : List ℕ) (rest : List (List ℕ)) → drop k ls ≡ l ∷ rest → take (k + 1) ls ≡ take k ls ++ l ∷ []
 take_more_first zero [] l rest e = let z : ◌≡◌ {A = ℕ} 0 1 = cc in absurd (omega arith)
@@ -122,16 +112,12 @@ module _ (text : List ℕ) (at n : ℕ) (w : Walked text at n) (here : at < leng
       (cases_lt (at + m) (length text))
 
   -- one line that is not empty
-  pub walked_more : (get_or text at 0 ≡ 10 → ⊥) → Walked text (behind text at) (n + 1)
+  pub walked_more : is_full (line_at text at) ≡ true → Walked text (behind text at) (n + 1)
   walked_more full =
-      let m = before 10 (drop at text) in
-      let some : 0 < m = omega (arith, prefix_len-drop_yes (unlike 10) text at 0 here (ap not (ne_eqb _ _ full))) in
-      let f : is_full (line_at text at) ≡ true = full_take m (drop at text) some (omega (arith, length-drop at text)) in
       let c : prefix_len is_full (lines_of (drop at text)) ≡ 1 + prefix_len is_full (lines_of (drop (behind text at) text)) =
-      ap (prefix_len is_full) (first_line text at here) ∙ ap (λ t. cond t (1 + prefix_len is_full (lines_of (drop (behind text at) text))) 0) f in
+      ap (prefix_len is_full) (first_line text at here) ∙ ap (λ t. cond t (1 + prefix_len is_full (lines_of (drop (behind text at) text))) 0) full in
       record {
         within = omega arith;
-        few = omega (arith, w.few);
         count = omega (arith, w.count);
         from_it = one_more;
         parted = parted_more w.parted;
@@ -143,13 +129,13 @@ pub record Apart (text : List ℕ) (end next n : ℕ) : Type 0 where
   pub second : lines_of (drop next text) ≡ second_block (lines_of text)
   pub count : n ≡ length (first_block (lines_of text))
 
-pub apart_here : (text : List ℕ) (at n : ℕ) → Walked text at n → at < length text → get_or text at 0 ≡ 10 → Apart text at (at + 1) n
-apart_here text at n w here feed =
+pub apart_here : (text : List ℕ) (at n : ℕ) → Walked text at n → at < length text → length (line_at text at) ≡ 0 → Apart text at (behind text at) n
+apart_here text at n w here short =
     let ls = lines_of text in
-    let none : before 10 (drop at text) ≡ 0 = prefix_len-drop_no (unlike 10) text at 0 here (ap not (eq-eqb _ _ feed)) in
-    let nx : behind text at ≡ at + 1 = omega arith in
-    let empty : lines_of (drop at text) ≡ [] ∷ lines_of (drop (at + 1) text) =
-    first_line text at here ∙ ap (λ m. take m (drop at text) ∷ lines_of (drop (behind text at) text)) none ∙ ap (λ m. [] ∷ lines_of (drop m text)) nx in
+    let m = before 10 (drop at text) in
+    let none : m ≡ 0 = omega (arith, length-take m (drop at text), length-drop at text, short) in
+    let empty : lines_of (drop at text) ≡ [] ∷ lines_of (drop (behind text at) text) =
+    first_line text at here ∙ ap (λ k. take k (drop at text) ∷ lines_of (drop (behind text at) text)) none in
     let c : n ≡ prefix_len is_full ls = omega (arith, w.count, ap (prefix_len is_full) empty) in
     record {
       first = ⊎_elim (λ e. absurd (omega arith)) (λ p. ap lines_of (sym (append-nil (take at text))) ∙ p [] ∙ append-nil (take n ls) ∙ ap (λ m. take m ls) c) w.parted;
@@ -157,16 +143,15 @@ apart_here text at n w here feed =
       count = omega (arith, length-take (prefix_len is_full ls) ls, prefix_len-le-length is_full ls);
     }
 
-pub apart_end : (text : List ℕ) (at n : ℕ) → Walked text at n → length text ≤ at → Apart text (length text) (length text) n
+pub apart_end : (text : List ℕ) (at n : ℕ) → Walked text at n → length text ≤ at → Apart text at at n
 apart_end text at n w end =
     let ls = lines_of text in
     let none : lines_of (drop at text) ≡ [] = ap lines_of (drop_all at text end) in
     let c : n ≡ prefix_len is_full ls = omega (arith, w.count, ap (prefix_len is_full) none) in
-    let gone : drop n ls ≡ [] = sym w.from_it ∙ none in
-    let all : length ls ≤ n = omega (arith, length-drop n ls, ap length gone) in
+    let all : length ls ≤ n = omega (arith, length-drop n ls, ap length (sym w.from_it ∙ none)) in
     record {
-      first = ap lines_of (take_all (length text) text (omega arith)) ∙ sym (take_all n ls all) ∙ ap (λ m. take m ls) c;
-      second = ap lines_of (drop_all (length text) text (omega arith)) ∙ sym (drop_all (prefix_len is_full ls + 1) ls (omega arith));
+      first = ap lines_of (take_all at text end) ∙ sym (take_all n ls all) ∙ ap (λ m. take m ls) c;
+      second = none ∙ sym (drop_all (prefix_len is_full ls + 1) ls (omega arith));
       count = omega (arith, length-take (prefix_len is_full ls) ls, prefix_len-le-length is_full ls);
     }
 

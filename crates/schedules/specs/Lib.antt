@@ -1,3 +1,4 @@
 pub mod Blocks
 pub mod Adds
+pub mod Walks
 pub mod Reads

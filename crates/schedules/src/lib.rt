@@ -4,6 +4,7 @@
 mod blocks;
 mod read;
 mod songs;
+mod walk;
 
 pub use blocks::{Gap, find_gap};
 pub use read::read_songs;

@@ -1,11 +1,13 @@
 // The songs of one block: an artist and a start for each.
-ghost use Rattle.std.specs.Prelude.{◌≡◌, ◌+◌, ◌<◌, ◌≤◌, [], ◌∷◌, ◌++◌, length, vec_len};
-ghost use Rattle.schedules.specs.Adds.{Added, Noted, number_of};
+ghost use Rattle.std.specs.Prelude.{◌≡◌, [], Some};
+ghost use Rattle.schedules.specs.Adds.{Added, Noted, Took, number_of, error_text};
 ghost use Rattle.schedules.specs.declared.songs.SongError.TheVariants.{NoMemory};
 
 use cells::Full;
 use lines::LineRefusal;
 use std::alloc::{AllocError, AllocFailed, Global};
+use std::error::Error;
+use std::fmt;
 
 // A line that brought no row: how many lines of its block stand before it, and why it was refused.
 #[derive(Clone, Copy)]
@@ -21,7 +23,8 @@ pub struct Songs {
     pub passed: Vec<PassedLine>,
 }
 
-#[derive(Clone, Copy, PartialEq)]
+// Why a block brings no songs.
+#[derive(Clone, Copy, Debug, PartialEq, Eq)]
 pub enum SongError {
     NoNames,
     TooManyRows,
@@ -39,6 +42,20 @@ impl SongError {
         }
     }
 }
+
+impl fmt::Display for SongError {
+    ghost output = { λ e. Some (error_text e) };
+
+    fn fmt<W: fmt::Write>(&self, f: &mut fmt::Formatter<W>) -> fmt::Result {
+        f.write_str(match self {
+            SongError::NoNames => "no names line artist,start",
+            SongError::TooManyRows => "more than 4096 songs",
+            SongError::NoMemory => "there is not enough memory",
+        })
+    }
+}
+
+impl Error for SongError {}
 
 impl From<AllocError> for SongError {
     ghost from_gives = { λ _ r. r ≡ NoMemory };
@@ -66,20 +83,29 @@ impl Songs {
         }
     }
 
+    // Appends the row that a line brings, or notes the line.
+    pub(crate) fn take(&mut self, line: Result<[Full; 2], PassedLine>) -> Result<(), SongError>
+        ensures { Took self.old line result self.new }
+    {
+        match line {
+            Ok(row) => self.add(row),
+            Err(passed) => self.note(passed),
+        }
+    }
+
     // Appends a row, unless 4,096 are held.
-    pub(crate) fn add(&mut self, row: &[Full]) -> Result<(), SongError>
-        requires { length row.now ≡ 2 }
-        ensures { Added self.old row.now result self.new }
+    fn add(&mut self, row: [Full; 2]) -> Result<(), SongError>
+        ensures { Added self.old row result self.new }
     {
         if self.cells.len() >= 2 * MOST_ROWS {
             return Err(SongError::TooManyRows);
         }
-        self.cells.extend_from_slice(row)?;
+        self.cells.extend_from_slice(&row)?;
         Ok(())
     }
 
     // Notes a line that was passed by.
-    pub(crate) fn note(&mut self, line: PassedLine) -> Result<(), SongError>
+    fn note(&mut self, line: PassedLine) -> Result<(), SongError>
         ensures { Noted self.old line result self.new }
     {
         self.passed.push(line)?;

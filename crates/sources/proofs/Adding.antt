@@ -1,16 +1,12 @@
 -- One item more is added to what was brought.
-use Rattle.std.proofs.Common.{◌≡◌, ℕ, ◌+◌, ◌*◌, Bool, false, cond, List, [], ◌∷◌, ◌++◌, length, take, vec_items, count_by, sym, refl, ap, ◌∙◌, arith}
-use Rattle.std.specs.Prelude.{All}
+use Rattle.std.proofs.Common.{◌≡◌, ℕ, ◌+◌, Bool, false, cond, List, [], ◌∷◌, ◌++◌, length, vec_items, count_by, sym, refl, ap, ◌∙◌, arith}
 use Rattle.std.proofs.lemmas.List.{append_assoc, append-nil, length-append}
+use Rattle.std.proofs.lemmas.Grind.{flat_map-append}
 use Rattle.std.proofs.lemmas.List.Sums.{sum_by_push}
 use Rattle.memory.specs.Items.{Item, batch, wait, fault}
 use Rattle.memory.specs.Rows.{cells_of}
-use Rattle.sources.specs.declared.answer.SourceAnswer.TheVariants.{Batch}
 use Rattle.sources.specs.declared.drained.Drained.{Drained}
-use Rattle.sources.specs.Asked.{Taken}
 use Rattle.sources.specs.Drained.{rows_of, is_batch_item, is_wait_item, is_fault_item, counted, Brought}
-use Rattle.sources.specs.Fits.{Fits}
-use Rattle.sources.proofs.Layers.{batch_cells}
 
 module _ {C : Type 0} where
   rows_append : (xs ys : List (Item C)) → rows_of (xs ++ ys) ≡ rows_of xs ++ rows_of ys
@@ -18,10 +14,6 @@ module _ {C : Type 0} where
   rows_append (batch rows ∷ xs) ys = ap (λ r. rows ++ r) (rows_append xs ys) ∙ sym (append_assoc rows (rows_of xs) (rows_of ys))
   rows_append (wait ∷ xs) ys = rows_append xs ys
   rows_append (fault c d ∷ xs) ys = rows_append xs ys
-
-  cells_append : (a b : List (List C)) → cells_of (a ++ b) ≡ cells_of a ++ cells_of b
-  cells_append [] b = refl
-  cells_append (r ∷ rs) b = ap (λ t. r ++ t) (cells_append rs b) ∙ sym (append_assoc r (cells_of rs) (cells_of b))
 
   -- a count that stops
   count_more : (p : Item C → Bool) (taken : List (Item C)) (item : Item C) (n n' : ℕ) → n ≡ counted (count_by p taken) → n' ≡ counted (n + cond (p item) 1 0) → n' ≡ counted (count_by p (taken ++ item ∷ []))
@@ -40,7 +32,7 @@ module _ {C : Type 0} where
         let all : rows_of (taken ++ batch rows ∷ []) ≡ rows_of taken ++ rows = rows_append taken (batch rows ∷ []) ∙ ap (λ r. rows_of taken ++ r) (append-nil rows) in
         let long : length (rows_of (taken ++ batch rows ∷ [])) ≡ length (rows_of taken) + length rows = ap length all ∙ length-append (rows_of taken) rows in
         record {
-          cells_are = c ∙ ap (λ x. x ++ cells_of rows) h.cells_are ∙ sym (ap cells_of all ∙ cells_append (rows_of taken) rows);
+          cells_are = c ∙ ap (λ x. x ++ cells_of rows) h.cells_are ∙ sym (ap cells_of all ∙ flat_map-append (λ r. r) (rows_of taken) rows);
           rows_are = omega (arith, h.rows_are);
           batches_are = count_more is_batch_item taken (batch rows) d.batches d'.batches h.batches_are b;
           waits_are = w ∙ count_same is_wait_item taken (batch rows) d.waits h.waits_are refl;

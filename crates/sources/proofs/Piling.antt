@@ -1,5 +1,5 @@
 -- Present layers over a table, drained.
-use Rattle.std.proofs.Common.{◌≡◌, ℕ, ◌*◌, ◌/◌, min, Bool, List, [], ◌∷◌, map, length, Ok, Err, filter, Result, ap, ◌∙◌, subst, arith}
+use Rattle.std.proofs.Common.{◌≡◌, ℕ, ◌*◌, Bool, List, [], ◌∷◌, map, Ok, Err, filter, Result, ap, ◌∙◌, subst, arith}
 use Rattle.std.specs.Prelude.{All}
 use Rattle.memory.specs.Items.{Item}
 use Rattle.memory.specs.Rows.{cells_of}

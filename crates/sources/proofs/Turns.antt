@@ -1,5 +1,5 @@
 -- The turns of a loop that drains a source.
-use Rattle.std.proofs.Common.{◌≡◌, ℕ, ◌≤◌, ◌⊎◌, List, [], ◌∷◌, ◌++◌, length, ap, ◌∙◌, sym, inl, arith}
+use Rattle.std.proofs.Common.{◌≡◌, ℕ, ◌≤◌, ◌⊎◌, List, [], ◌∷◌, ◌++◌, length, ap, ◌∙◌, sym, inl}
 use Rattle.std.proofs.lemmas.List.{append_assoc}
 use Rattle.memory.specs.Items.{Item}
 use Rattle.sources.specs.declared.drained.Drained.{Drained}

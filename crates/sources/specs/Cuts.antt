@@ -1,5 +1,6 @@
 -- Rows cut into batches.
-use Rattle.std.specs.Prelude.{ℕ, ◌+◌, ◌-◌, ◌/◌, List, [], ◌∷◌, map, length, take, drop, replicate}
+use Rattle.std.specs.Prelude.{ℕ, ◌/◌, List, [], ◌∷◌, map, length, take, drop, replicate}
+pub use Rattle.memory.specs.Counts.{parts}
 use Rattle.memory.specs.Items.{Item, batch}
 use Rattle.memory.specs.Rows.{rows_from}
 
@@ -11,10 +12,6 @@ whole_rows w cells = rows_from (length cells / w) w cells
 abbrev pub cut_by : {X : Type 0} → List ℕ → List X → List (List X)
 cut_by [] xs = []
 cut_by (k ∷ ks) xs = take k xs ∷ cut_by ks (drop k xs)
-
--- how many parts of c it takes for n, the last perhaps shorter
-abbrev pub parts : ℕ → ℕ → ℕ
-parts n c = (n + (c - 1)) / c
 
 -- rows in batches of c, the last perhaps shorter
 abbrev pub batches_of : {C : Type 0} → ℕ → List (List C) → List (Item C)

@@ -1,17 +1,12 @@
 -- What a source brings from first to last.
-use Rattle.std.specs.Prelude.{◌≡◌, ℕ, ◌-◌, ◌^◌, ◌<◌, ◌≤◌, min, Bool, true, false, List, [], ◌∷◌, ◌++◌, length, Ok, Err, vec_items, count_by, Result}
+use Rattle.std.specs.Prelude.{◌≡◌, ℕ, ◌<◌, ◌≤◌, Bool, true, false, List, [], ◌++◌, length, Ok, Err, vec_items, count_by, Result}
 use Rattle.memory.specs.Items.{Item, batch, wait, fault}
 use Rattle.memory.specs.Rows.{cells_of}
+pub use Rattle.memory.specs.Counts.{counted}
+pub use Rattle.memory.specs.Items.{rows_brought as rows_of}
 use Rattle.sources.specs.declared.drained.DrainError.{DrainError}
 use Rattle.sources.specs.declared.drained.DrainError.TheVariants.{PageTooShort, NoMemory}
 use Rattle.sources.specs.declared.drained.Drained.{Drained}
-
--- the rows that the items bring, in order
-abbrev pub rows_of : {C : Type 0} → List (Item C) → List (List C)
-rows_of [] = []
-rows_of (batch rows ∷ items) = rows ++ rows_of items
-rows_of (wait ∷ items) = rows_of items
-rows_of (fault cause depth ∷ items) = rows_of items
 
 -- the item is a batch
 abbrev pub is_batch_item : {C : Type 0} → Item C → Bool
@@ -30,10 +25,6 @@ abbrev pub is_fault_item : {C : Type 0} → Item C → Bool
 is_fault_item (batch rows) = false
 is_fault_item wait = false
 is_fault_item (fault cause depth) = true
-
--- a count stops at the largest number of 64 bits
-abbrev pub counted : ℕ → ℕ
-counted n = min n (2 ^ 64 - 1)
 
 -- all rows of the items in order, and how many items of each sort there are
 pub record Brought {C : Type 0} (items : List (Item C)) (d : Drained C) : Type 0 where

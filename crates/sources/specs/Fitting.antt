@@ -1,5 +1,5 @@
 -- That the items of the sources here fit, as the trait asks. These are proofs, not definitions.
-use Rattle.std.specs.Prelude.{◌≡◌, ℕ, zero, suc, ◌+◌, ◌*◌, ◌/◌, ◌≤◌, Bool, List, map, length, take, drop, replicate, All}
+use Rattle.std.specs.Prelude.{◌≡◌, ℕ, zero, suc, ◌+◌, ◌/◌, ◌≤◌, Bool, List, map, length, take, drop, replicate, All}
 use Rattle.std.proofs.Common.{sym, subst, le_trans}
 use Rattle.std.proofs.Math.Nat.{min-le_left, min-le_right, div-mul-le_self}
 use Rattle.std.proofs.lemmas.List.{length-take}

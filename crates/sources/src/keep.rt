@@ -14,6 +14,7 @@ fn has_cell<C: Cell>(row: &[C], column: usize) -> bool
 }
 
 // Moves the rows that have a cell in a column to the front of the page, in order, and counts them.
+// They are read from the page that they move within, so the loop goes by index: an iterator over the rows would hold the page.
 #[tactic(auto, using(crate::proofs::Keeping::row_within))]
 pub(crate) fn keep_rows<C: Cell>(
     page: &mut [C],

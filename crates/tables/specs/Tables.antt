@@ -1,7 +1,7 @@
 -- The left table on paper: what add refuses, and what it leaves.
 use Rattle.std.specs.Prelude.{ℕ, ◌+◌, ◌*◌, cond, not, ◌||◌, List, [], ◌∷◌, length, is_some, Option, ◌==◌, nat_le, nat_lt}
 use Rattle.memory.specs.Rows.{rows_from, put_row}
-use Rattle.tables.specs.Refusals.{first_of}
+use Rattle.memory.specs.Conditions.{first_of}
 use Rattle.tables.specs.declared.table.LeftTable.{LeftTable}
 use Rattle.tables.specs.declared.refusal.TableRefusal.{TableRefusal}
 use Rattle.tables.specs.declared.refusal.TableRefusal.TheVariants.{RowLength, Full}

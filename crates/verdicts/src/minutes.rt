@@ -3,6 +3,7 @@ ghost use Rattle.std.specs.Prelude.{◌≡◌, ◌*◌, ◌≤◌, true, false, 
 ghost use Rattle.verdicts.specs.Lengths.{are_minutes};
 
 use crate::MinutesRefusal;
+use std::fmt;
 
 #[derive(Clone, Copy, Debug, PartialEq, Eq)]
 pub struct Minutes {
@@ -25,6 +26,17 @@ impl TryFrom<u32> for Minutes {
     }
 }
 
+// Minutes print as their count.
+impl fmt::Display for Minutes {
+    ghost use Rattle.std.specs.Prelude.{Some, decimal};
+
+    ghost output = { λ m. Some (decimal m.count) };
+
+    fn fmt<W: fmt::Write>(&self, f: &mut fmt::Formatter<W>) -> fmt::Result {
+        f.write(self.count)
+    }
+}
+
 impl Minutes {
     pub fn count(self) -> u32
         ensures { result ≡ self.count }
@@ -35,7 +47,6 @@ impl Minutes {
     pub fn seconds(self) -> u64
         ensures { result ≡ 60 * self.count }
     {
-        let Minutes { count } = self;
-        60 * u64::from(count)
+        60 * u64::from(self.count)
     }
 }

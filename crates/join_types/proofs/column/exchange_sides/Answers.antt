@@ -1,6 +1,6 @@
-use Rattle.std.proofs.Common.{◌++◌, map, get_or, drop, set, ap, ◌∙◌, append-nil, arith}
+use Rattle.std.proofs.Common.{get_or, set, ap, ◌∙◌, arith}
 use Rattle.std.proofs.lemmas.List.Edits.{map_over_more}
-use Rattle.std.proofs.lemmas.List.{get_or_default, take_all, drop_all}
+use Rattle.std.proofs.lemmas.List.{get_or_default}
 use Rattle.join_types.specs.declared.column.ColumnIndex.{ColumnIndex}
 use Rattle.join_types.specs.declared.column.JoinSide.TheVariants.{Left}
 use Rattle.join_types.specs.Types.{swapped}
@@ -13,12 +13,3 @@ loop-column-preserved c =
     let x : ColumnIndex = get_or ys i (record { index = 0; side = Left }) in
     ap (set ys i) c.exchanged.ensures
     ∙ map_over_more swapped c.args.columns.now ys i x c.loop-column-test.true c.loop-column.invariant (get_or_default ys i _ x (omega arith))
-
-pub returns : goal.returns
-returns c =
-    let xs = c.args.columns.now in
-    let i = c.loop-column.column-index in
-    c.loop-column.invariant
-    ∙ ap (λ ys. map swapped ys ++ drop i xs) (take_all i xs c.loop-column-test.false)
-    ∙ ap (λ ys. map swapped xs ++ ys) (drop_all i xs c.loop-column-test.false)
-    ∙ append-nil (map swapped xs)

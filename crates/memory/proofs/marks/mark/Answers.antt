@@ -1,7 +1,6 @@
-use Rattle.std.proofs.Common.{ℕ, ◌/◌, ◌%◌, List, get_or, set, sym, ap, ◌∙◌, arith}
+use Rattle.std.proofs.Common.{ℕ, ◌/◌, ◌%◌, List, get_or, set, ap, ◌∙◌, arith}
 use lib.Bits.{bit_or}
 use Rattle.std.proofs.lemmas.Nat.{one_shl}
-use Rattle.std.proofs.lemmas.List.{set_past}
 use Rattle.memory.specs.Marks.{bits_of}
 use Rattle.memory.proofs.Marking.{bits-marked}
 use Rattle.memory.proofs.marks.mark.Goals as goal
@@ -13,9 +12,3 @@ returns-then-w-words c =
     let put : ℕ → List ℕ = λ m. set ws (i / 64) (bit_or (get_or ws (i / 64) 0) m) in
     let one = one_shl (i % 64) 64 (omega arith) in
     record { words = ap put one; bits = λ h n. ap (λ m. bits_of n (put m)) one ∙ bits-marked ws i n c.if-w-words.true }
-
-pub returns-else-w-words : goal.returns-else-w-words
-returns-else-w-words c =
-    let ws = c.args.words.now in
-    let i = c.args.i in
-    record { words = sym (set_past ws (i / 64) _ c.if-w-words.false); bits = λ h n. absurd (omega arith) }

@@ -1,10 +1,10 @@
-use Rattle.std.proofs.Common.{◌≡◌, ◌+◌, ◌-◌, ◌*◌, ◌<◌, ◌≤◌, length, take, drop, filter, sym, ap, ◌∙◌, mul-le-mul_right, arith}
+use Rattle.std.proofs.Common.{◌≡◌, ◌+◌, ◌-◌, ◌*◌, ◌<◌, length, take, drop, filter, sym, ap, ◌∙◌, arith}
 use lib.Seq.{paste}
 use Rattle.std.proofs.lemmas.List.{take_all}
 use Rattle.memory.specs.Rows.{rows_from, cells_of}
 use Rattle.memory.proofs.Cuts.{length-rows_from}
 use Rattle.sources.specs.Present.{has_cell}
-use Rattle.sources.proofs.Keeping.{row_within, kept_yes, kept_no}
+use Rattle.sources.proofs.Keeping.{kept_yes, kept_no}
 use Rattle.sources.proofs.keep.keep_rows.Goals as goal
 use Rattle.sources.proofs.keep.keep_rows.Goals.{then-has_cell, else-has_cell}
 

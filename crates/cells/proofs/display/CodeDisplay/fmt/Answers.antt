@@ -1,5 +1,4 @@
-use Rattle.std.proofs.Common.{IsUtf8, sym, ◌∙◌, subst}
-use Rattle.std.specs.Fmt.{HasWritten}
+use Rattle.std.proofs.Common.{IsUtf8, sym, subst}
 use Rattle.cells.proofs.Letters.{code_utf8, front-letters}
 use Rattle.cells.proofs.display.CodeDisplay.fmt.Goals as goal
 
@@ -7,10 +6,3 @@ pub unreachable-requires : goal.unreachable-requires
 unreachable-requires g c =
     let code = c.args.self.now in
     c.in-Err.ensures.cases.0 (subst IsUtf8 (sym (front-letters code _ _ _ c.write-n.ensures.count c.write-n.ensures.bytes)) (code_utf8 code))
-
-pub returns-clause-writes : goal.returns-clause-writes
-returns-clause-writes g c plain ok =
-    let code = c.args.self.now in
-    subst (λ bs. HasWritten g.W.Write.write_str_gives c.args.f.now bs c.write_str.new.self)
-    (c.in-Ok.ensures.cases.0 ∙ front-letters code _ _ _ c.write-n.ensures.count c.write-n.ensures.bytes)
-    (c.write_str.ensures.writes plain ok)
