@@ -68,7 +68,8 @@ impl<V: Verdict> Pairing<'_, V> {
         // By number, since the marks go by it.
         for j in 0..right.count() {
             let row = right.row(j);
-            if self.verdict.ask(left, row).is_true() {
+            let is_pair = self.verdict.ask(left, row).is_true();
+            if is_pair {
                 marks.mark(i, j);
                 self.append_pair(left, row, waiting);
             }
