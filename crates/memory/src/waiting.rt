@@ -1,5 +1,6 @@
 // Rows that wait on a lent page (docs/RULES.md, "Pages").
-ghost use Rattle.std.specs.Prelude.{◌≡◌, ◌+◌, ◌-◌, ◌*◌, ◌≤◌, min, true, ◌&&◌, [], ◌∷◌, ◌++◌, length, take, drop, is_ok, if◌then◌else◌, nat_le};
+ghost use Rattle.std.specs.Prelude.{◌≡◌, ◌+◌, ◌-◌, ◌*◌, ◌≤◌, true, ◌&&◌, [], ◌∷◌, ◌++◌, length, take, drop, is_ok, if◌then◌else◌, nat_le};
+ghost use Rattle.memory.specs.Counts.{counted};
 ghost use Rattle.memory.specs.Output.{output_row};
 ghost use Rattle.memory.specs.Rows.{rows_from, put_row};
 
@@ -35,7 +36,7 @@ impl<C: Cell> WaitingRows<'_, C> {
     ) -> Result<(), NoRoom>
         ensures page { self.new.cells.ghost_name ≡ self.old.cells.ghost_name }
         ensures room { is_ok result ≡ nat_le (self.old.rows * length columns.now + length columns.now) (length self.old.cells.now) }
-        ensures counted { self.new.rows ≡ (if is_ok result then min (self.old.rows + 1) usize.MAX else self.old.rows) }
+        ensures counted { self.new.rows ≡ (if is_ok result then counted (self.old.rows + 1) else self.old.rows) }
         ensures cells { self.new.cells.now ≡ (if is_ok result then put_row self.old.cells.now (self.old.rows * length columns.now) (output_row C.Cell.missing columns.now left.now right.now mark) else self.old.cells.now) }
         ensures rows { is_ok result ≡ true → rows_from (self.old.rows + 1) (length columns.now) self.new.cells.now ≡ rows_from self.old.rows (length columns.now) self.old.cells.now ++ output_row C.Cell.missing columns.now left.now right.now mark ∷ [] }
     {
