@@ -4,7 +4,7 @@ use Rattle.std.proofs.lemmas.Bool.Decides.{nat_tests}
 use Rattle.lines.specs.Written.{line_at, behind}
 use Rattle.texts.specs.Items.{lines_of}
 use Rattle.schedules.specs.Blocks.{is_full, second_block}
-use Rattle.schedules.proofs.Parting.{walked_at, walked_none, walked_more, full_some, apart_here, apart_end}
+use Rattle.schedules.proofs.Parting.{walked_at, walked_more, full_some, apart_here, apart_end}
 use Rattle.schedules.proofs.blocks.find_gap.Goals as goal
 use Rattle.schedules.proofs.blocks.find_gap.Goals.{In-Some}
 
@@ -14,9 +14,6 @@ moved c = c.in-Some.ensures.steps.3 ∙ ap (λ t. behind t c.loop-line.walk.at) 
 
 told : (c : In-Some) → c.in-Some.line.now ≡ line_at c.args.text.now c.loop-line.walk.at
 told c = c.in-Some.ensures.steps.1 ∙ ap (λ t. line_at t c.loop-line.walk.at) c.loop-line.invariant.0
-
-pub loop-line-init : goal.loop-line-init
-loop-line-init c = (c.new-walk.ensures.0, walked_at c.args.text.now _ _ _ _ c.new-walk.ensures.1 c.new-walk.ensures.2 (walked_none c.args.text.now))
 
 pub returns-in_default : goal.returns-in_default
 returns-in_default c =
