@@ -11,7 +11,7 @@ mod waiting;
 
 pub use columns::ColumnCount;
 pub use marks::{clear_marks, is_marked, mark};
-pub use output::put_output;
+pub use output::{OutputParts, put_output};
 pub use page::{NoRoom, has_room, put_row};
 pub use row::{cell_at, row_at};
 pub use rows::{Rows, RowsRefusal};

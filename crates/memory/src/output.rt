@@ -8,14 +8,24 @@ use crate::page::{NoRoom, fits};
 use cells::Cell;
 use join_types::{ColumnIndex, JoinSide};
 
-// The cell of an output column; a side that is padded is the row of no cells.
-fn output_cell<C: Cell>(column: ColumnIndex, left: &[C], right: &[C], mark: C) -> C
-    ensures { result ≡ output_cell C.Cell.missing left.now right.now mark column }
-{
-    match column.side {
-        JoinSide::Left => cell_at(left, column.index),
-        JoinSide::Right => cell_at(right, column.index),
-        JoinSide::None => mark,
+// What an output row is built from: a left row, a right row, and the cell of a mark column.
+#[derive(Clone, Copy)]
+pub struct OutputParts<'a, C> {
+    pub left: &'a [C],
+    pub right: &'a [C],
+    pub mark: C,
+}
+
+impl<C: Cell> OutputParts<'_, C> {
+    // The cell of an output column; a side that is padded is the row of no cells.
+    fn cell(&self, column: ColumnIndex) -> C
+        ensures { result ≡ output_cell C.Cell.missing self.now.left.now self.now.right.now self.now.mark column }
+    {
+        match column.side {
+            JoinSide::Left => cell_at(self.left, column.index),
+            JoinSide::Right => cell_at(self.right, column.index),
+            JoinSide::None => self.mark,
+        }
     }
 }
 
@@ -24,19 +34,17 @@ pub fn put_output<C: Cell>(
     page: &mut [C],
     at: usize,
     columns: &[ColumnIndex],
-    left: &[C],
-    right: &[C],
-    mark: C,
+    parts: &OutputParts<C>,
 ) -> Result<(), NoRoom>
     ensures room { is_ok result ≡ nat_le (at + length columns.now) (length page.old) }
-    ensures cells { page.new ≡ (if is_ok result then put_row page.old at (output_row C.Cell.missing columns.now left.now right.now mark) else page.old) }
+    ensures cells { page.new ≡ (if is_ok result then put_row page.old at (output_row C.Cell.missing columns.now parts.now.left.now parts.now.right.now parts.now.mark) else page.old) }
 {
     if !fits(page.len(), at, columns.len()) {
         return Err(NoRoom);
     }
     // Written by index: of what iter_mut().zip(columns) writes, a proof knows nothing.
     for (i, column) in columns.iter().enumerate() {
-        page[at + i] = output_cell(*column, left, right, mark);
+        page[at + i] = parts.cell(*column);
     }
     Ok(())
 }

@@ -4,7 +4,7 @@ ghost use Rattle.memory.specs.Counts.{counted};
 ghost use Rattle.memory.specs.Output.{output_row};
 ghost use Rattle.memory.specs.Rows.{rows_from, put_row};
 
-use crate::{NoRoom, has_room, put_output};
+use crate::{NoRoom, OutputParts, has_room, put_output};
 use cells::Cell;
 use join_types::ColumnIndex;
 
@@ -27,21 +27,15 @@ fn move_front<C: Copy>(waiting: &mut [C], cut: usize, end: usize, out: &mut [C])
 
 impl<C: Cell> WaitingRows<'_, C> {
     // Writes the output row behind the waiting rows and counts it, if it fits. The count stops at the largest usize.
-    pub fn append(
-        &mut self,
-        columns: &[ColumnIndex],
-        left: &[C],
-        right: &[C],
-        mark: C,
-    ) -> Result<(), NoRoom>
+    pub fn append(&mut self, columns: &[ColumnIndex], parts: &OutputParts<C>) -> Result<(), NoRoom>
         ensures page { self.new.cells.ghost_name ≡ self.old.cells.ghost_name }
         ensures room { is_ok result ≡ nat_le (self.old.rows * length columns.now + length columns.now) (length self.old.cells.now) }
         ensures counted { self.new.rows ≡ (if is_ok result then counted (self.old.rows + 1) else self.old.rows) }
-        ensures cells { self.new.cells.now ≡ (if is_ok result then put_row self.old.cells.now (self.old.rows * length columns.now) (output_row C.Cell.missing columns.now left.now right.now mark) else self.old.cells.now) }
-        ensures rows { is_ok result ≡ true → rows_from (self.old.rows + 1) (length columns.now) self.new.cells.now ≡ rows_from self.old.rows (length columns.now) self.old.cells.now ++ output_row C.Cell.missing columns.now left.now right.now mark ∷ [] }
+        ensures cells { self.new.cells.now ≡ (if is_ok result then put_row self.old.cells.now (self.old.rows * length columns.now) (output_row C.Cell.missing columns.now parts.now.left.now parts.now.right.now parts.now.mark) else self.old.cells.now) }
+        ensures rows { is_ok result ≡ true → rows_from (self.old.rows + 1) (length columns.now) self.new.cells.now ≡ rows_from self.old.rows (length columns.now) self.old.cells.now ++ output_row C.Cell.missing columns.now parts.now.left.now parts.now.right.now parts.now.mark ∷ [] }
     {
         let at = self.rows.saturating_mul(columns.len());
-        put_output(self.cells, at, columns, left, right, mark)?;
+        put_output(self.cells, at, columns, parts)?;
         self.rows = self.rows.saturating_add(1);
         Ok(())
     }

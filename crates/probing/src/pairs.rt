@@ -9,7 +9,7 @@ ghost use Rattle.probing.specs.Met.{width, PairsBy, met_in, met_row, met_range, 
 
 use crate::JoinOutput;
 use cells::Cell;
-use memory::{Rows, WaitingRows, mark};
+use memory::{OutputParts, Rows, WaitingRows, mark};
 use std::ops::Range;
 use verdicts::Verdict;
 
@@ -47,8 +47,8 @@ impl<V: Verdict> Pairing<'_, V> {
         ensures appended { (S : Setup V.Cell) → PairsBy S V.Cell.Cell.missing (V.Verdict.says self.now.verdict.now) self.now.output → waits_in waiting.new ≡ (if has_pairs S.join_type then appended (width S) (output_row S left.now right.now S.missing) (waits_in waiting.old) else waits_in waiting.old) }
     {
         if self.output.join_type.row().pairs {
-            let missing = <V::Cell as Cell>::missing_cell();
-            let _ = waiting.append(self.output.columns, left, right, missing);
+            let mark = <V::Cell as Cell>::missing_cell();
+            let _ = waiting.append(self.output.columns, &OutputParts { left, right, mark });
         }
     }
 

@@ -11,7 +11,7 @@ ghost use Rattle.probing.specs.Rests.{RestsBy, side_rest, side_row, rest_appende
 use crate::JoinOutput;
 use cells::Cell;
 use join_types::{JoinSide, Rest};
-use memory::{Rows, WaitingRows, is_marked};
+use memory::{OutputParts, Rows, WaitingRows, is_marked};
 use std::ops::Range;
 
 // Whether a rest has a row, given whether the row is marked.
@@ -71,7 +71,7 @@ impl JoinOutput<'_> {
             JoinSide::Right => (padding, row),
             JoinSide::None => (padding, padding),
         };
-        let _ = waiting.append(self.columns, left, right, mark);
+        let _ = waiting.append(self.columns, &OutputParts { left, right, mark });
     }
 
     // Appends the rest of a side's rows from one place to another, looking at each mark where it stands.
