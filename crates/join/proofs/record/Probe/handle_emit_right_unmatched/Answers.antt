@@ -14,17 +14,6 @@ use Rattle.join.proofs.Delivering.{rows_at}
 use Rattle.join.proofs.Handling.{sound_waiting, handles_by, at_state, delivers_at, delivered, appends}
 use Rattle.join.proofs.record.Probe.handle_emit_right_unmatched.Goals as goal
 
-pub deliver_rows-requires : goal.deliver_rows-requires
-deliver_rows-requires g c =
-    let a = c.args in
-    let plan = a.plan.now in
-    let p = a.self.now in
-    record {
-      some = omega arith;
-      lying = room_in p.waiting (room_of plan p.largest) plan.list.count (length a.waiting.now) c.requires.sound.waiting c.requires.room;
-      room = c.requires.outs;
-    }
-
 pub returns-then-self-plan : goal.returns-then-self-plan
 returns-then-self-plan g c =
     let a = c.args in

@@ -1,4 +1,4 @@
-use Rattle.std.proofs.Common.{◌≡◌, ◌-◌, ◌≤◌, true, false, length, sym, refl, ap, ◌∙◌, arith}
+use Rattle.std.proofs.Common.{◌≡◌, ◌-◌, ◌≤◌, true, false, sym, refl, ap, ◌∙◌, arith}
 use Rattle.join_types.specs.Types.{some_rest}
 use Rattle.memory.proofs.Cuts.{length-rows_from}
 use Rattle.nested_loop.specs.Model.{right_rest_of}
@@ -8,20 +8,8 @@ use Rattle.runs.proofs.Branches.{probe_delivers, probe_meets, probe_rests, probe
 use Rattle.join.specs.View.{setup_in}
 use Rattle.join.specs.Handled.{around}
 use Rattle.join.specs.Sound.{room_of}
-use Rattle.join.proofs.Quiet.{room_in}
 use Rattle.join.proofs.Handling.{right-rest, sound_waiting, handles_by, handles_as, at_state, delivers_at, delivered, passes}
 use Rattle.join.proofs.record.Probe.handle_probe_right.Goals as goal
-
-pub deliver_rows-requires : goal.deliver_rows-requires
-deliver_rows-requires g c =
-    let a = c.args in
-    let plan = a.plan.now in
-    let p = a.self.now in
-    record {
-      some = omega arith;
-      lying = room_in p.waiting (room_of plan p.largest) plan.list.count (length a.waiting.now) c.requires.sound.waiting c.requires.room;
-      room = c.requires.outs;
-    }
 
 pub returns-then-self-plan : goal.returns-then-self-plan
 returns-then-self-plan g c =

@@ -10,5 +10,5 @@ invariant_of-result c =
     let few : ColumnList → Type 0 = λ l. l.count ≤ 32 in
     record { few = subst few (sym c.exchanged.ensures) s.few; legal = ap is_legal c.exchanged.ensures ∙ legal_exchanged s.list ∙ s.legal }
 
-pub returns : goal.returns
-returns c = record { list = c.exchanged.ensures; columns = ap columns_of c.exchanged.ensures ∙ columns_exchanged c.args.self.list }
+pub returns-clause-columns : goal.returns-clause-columns
+returns-clause-columns c = ap columns_of c.exchanged.ensures ∙ columns_exchanged c.args.self.list
