@@ -39,7 +39,7 @@ fn filled(all: &CodeBytes) -> usize
 }
 
 impl Code {
-    // The code with these letters, where they make one.
+    // The code with these letters, where they make one. An Option: of a text that is no code there is nothing more to tell.
     pub fn new(bytes: &[u8]) -> Option<Code>
         ensures { MatchOption result (is_code bytes.now ≡ false) (λ c. (is_code bytes.now ≡ true) × (c.bits ≡ packed bytes.now) × (letters c.bits ≡ bytes.now)) }
     {
@@ -57,7 +57,7 @@ impl Code {
         self.bits
     }
 
-    // Puts the letters at the front of `out`, and answers how many there are.
+    // Puts the letters at the front of `out`, and answers how many there are: the caller lends the bytes, as cells use no heap.
     pub fn write(self, out: &mut CodeBytes) -> usize
         ensures count { result ≡ length (letters self.bits) }
         ensures few { result ≤ 8 }

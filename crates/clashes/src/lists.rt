@@ -1,5 +1,5 @@
 // Both clash lists of a text, and what widening the separation changed.
-ghost use Rattle.std.specs.Prelude.{◌≡◌, ◌/◌, length, IfOk};
+ghost use Rattle.std.specs.Prelude.{◌≡◌, ◌/◌, ◌%◌, length, IfOk};
 ghost use Rattle.memory.specs.Rows.{rows_in, rows_from};
 ghost use Rattle.texts.specs.Items.{lines_of};
 ghost use Rattle.clashes.specs.Lists.{Listed, Compared};
@@ -60,7 +60,11 @@ const SONG: SongColumns = SongColumns {
 
 // Rows of two cells.
 fn song_rows(cells: &[Full]) -> Rows<'_, Full>
+    requires { length cells.now % 2 ≡ 0 }
     ensures { rows_in result ≡ rows_from (length cells.now / 2) 2 cells.now }
 {
-    Rows::first(cells, 2, cells.len() / 2)
+    match Rows::new(cells, 2) {
+        Ok(rows) => rows,
+        Err(_) => unreachable(),
+    }
 }

@@ -2,7 +2,7 @@
 use Rattle.std.proofs.Common.{◌≡◌, ℕ, zero, suc, ◌+◌, ◌*◌, ◌/◌, ◌%◌, ◌^◌, ◌≤◌, Bool, true, false, ◌||◌, eqb, List, [], ◌∷◌, map, length, get_or, drop, replicate, sym, refl, ap, ◌∙◌, ap₂, le_trans, mul-le-mul_right, zero-mul}
 use native.Mathlib.Nat.{zero-div}
 use Rattle.std.specs.List.{range_with_len}
-use Rattle.memory.specs.declared.rows.Rows.{Rows}
+use Rattle.memory.specs.declared.rows.MemoryRows.{MemoryRows}
 use Rattle.memory.specs.Marks.{bit, bits_of}
 use Rattle.memory.specs.Rows.{rows_from, rows_in}
 use Rattle.nested_loop.specs.Machine.{no_marks}
@@ -40,5 +40,5 @@ pub room_in : (few most width cells : ℕ) → few ≤ most → most * width ≤
 room_in few most width cells h l = le_trans (mul-le-mul_right width h) l
 
 -- the first rows of memory that is lent
-pub rows_first : {C : Type 0} (t : Rows C) (cells : List C) (columns count : ℕ) → (t.cells.now ≡ cells) × (t.columns ≡ columns) × (t.count ≡ count) → rows_in t ≡ rows_from count columns cells
+pub rows_first : {C State : Type 0} (t : MemoryRows C State) (cells : List C) (columns count : ℕ) → (t.cells.now ≡ cells) × (t.columns ≡ columns) × (t.count ≡ count) → rows_in t ≡ rows_from count columns cells
 rows_first t cells columns count e = λ i. rows_from (e.2 i) (e.1 i) (e.0 i)

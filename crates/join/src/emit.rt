@@ -1,23 +1,19 @@
-// EmitRightUnmatched and EmitLeftUnmatched: the rests are appended, and what waits is delivered.
-ghost use Rattle.std.specs.Prelude.{◌≡◌, ℕ, ◌+◌, ◌*◌, ◌<◌, ◌≤◌, min, ◌&&◌, List, ◌++◌, length};
-ghost use Rattle.join_types.specs.Types.{left_rest_of, some_rest};
+// EmitRightUnmatched: the right rest of the batch is appended, or a full batch that waits is delivered.
+ghost use Rattle.std.specs.Prelude.{◌≡◌, ℕ, ◌*◌, ◌<◌, ◌≤◌, List, length};
 ghost use Rattle.memory.specs.Items.{Item};
-ghost use Rattle.memory.specs.Marks.{bits_of};
-ghost use Rattle.memory.specs.Rows.{rows_from};
 ghost use Rattle.verdicts.specs.declared.truth.Truth.{Truth};
-ghost use Rattle.nested_loop.specs.Loop.{left_rest};
-ghost use Rattle.nested_loop.specs.Machine.{handled, on, EmitLeftUnmatched as Emitting};
+ghost use Rattle.nested_loop.specs.Machine.{handled};
 ghost use Rattle.nested_loop.specs.declared.answer.Answer.TheVariants.{On};
 ghost use Rattle.nested_loop.specs.declared.answer.NLJState.TheVariants.{EmitRightUnmatched, EmitLeftUnmatched};
 ghost use Rattle.opening.specs.Orders.{Planned};
 ghost use Rattle.join.specs.View.{setup_in};
-ghost use Rattle.join.specs.Handled.{around, waiting_rows, handled_by, Handles};
+ghost use Rattle.join.specs.Handled.{around, handled_by, Handles};
 ghost use Rattle.join.specs.Sound.{Sound, room_of};
 
 use crate::deliver::output_of;
 use crate::record::Probe;
 use cells::Cell;
-use memory::{Rows, WaitingRows};
+use memory::{LentRows, WaitingRows};
 use nested_loop::{Answer, NLJState};
 use opening::Plan;
 
@@ -41,7 +37,7 @@ impl Probe {
         if self.waiting >= plan.batch_size {
             return self.deliver_rows(plan, plan.batch_size, waiting, out);
         }
-        let rights = Rows::first(right, plan.list.right_columns, self.rows);
+        let rights = LentRows::first(right, plan.list.right_columns, self.rows);
         let mut waiting = WaitingRows {
             cells: waiting,
             rows: self.waiting,

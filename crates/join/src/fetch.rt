@@ -35,6 +35,7 @@ impl Probe {
         };
         let before = self.taken;
         self.largest = self.largest.max(largest);
+        // One match on the state and the item together, by the project's rules: all cases stand side by side.
         match (self.state, item) {
             (NLJState::FetchingRight, SourceAnswer::Batch(rows)) => {
                 self.taken = before.saturating_add(1);

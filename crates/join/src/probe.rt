@@ -14,7 +14,7 @@ ghost use Rattle.join.specs.Sound.{Sound, room_of};
 use crate::deliver::output_of;
 use crate::record::Probe;
 use join_types::need_produce_right_in_final;
-use memory::{Rows, WaitingRows};
+use memory::{LentRows, WaitingRows};
 use nested_loop::{Answer, NLJState};
 use opening::Plan;
 use probing::{PairMarks, Pairing};
@@ -22,7 +22,7 @@ use verdicts::Verdict;
 
 // What the caller lends for the join: the verdict, and the left memory.
 #[derive(Drop)]
-pub(crate) struct Lent<'a, V: Verdict> {
+pub(crate) struct TableAndVerdict<'a, V: Verdict> {
     pub verdict: &'a V,
     pub left: &'a [V::Cell],
 }
@@ -45,7 +45,7 @@ impl Probe {
     fn process_probe_batch<'a, V: Verdict>(
         &mut self,
         plan: &'a Plan,
-        lent: &'a Lent<V>,
+        lent: &'a TableAndVerdict<V>,
         right: &[V::Cell],
         left_marks: &mut [u64],
         waiting: &mut [V::Cell],
@@ -67,8 +67,8 @@ impl Probe {
             verdict: lent.verdict,
             output: output_of(plan),
         };
-        let lefts = Rows::first(lent.left, plan.list.left_columns, plan.left_rows);
-        let rights = Rows::first(right, plan.list.right_columns, self.rows);
+        let lefts = LentRows::first(lent.left, plan.list.left_columns, plan.left_rows);
+        let rights = LentRows::first(right, plan.list.right_columns, self.rows);
         let mut marks = PairMarks {
             left: left_marks,
             right: &mut self.right_marks,
@@ -87,7 +87,7 @@ impl Probe {
     pub(crate) fn handle_probe_right<V: Verdict>(
         &mut self,
         plan: &Plan,
-        lent: &Lent<V>,
+        lent: &TableAndVerdict<V>,
         right: &[V::Cell],
         left_marks: &mut [u64],
         waiting: &mut [V::Cell],

@@ -1,4 +1,5 @@
-// What a join keeps between steps, as plain data: what holds of it stands in contracts (docs/DECISIONS.md, "Code forms").
+// What a join keeps between steps, as plain data in arrays: a join uses no heap, and what holds of its records is required by each handler
+// until the type that will hold them has it as an invariant (docs/DECISIONS.md, "Code forms").
 use nested_loop::NLJState;
 use opening::Plan;
 

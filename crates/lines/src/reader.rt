@@ -6,9 +6,10 @@ ghost use Rattle.lines.specs.Written.{before, behind, line_at, passed};
 use crate::guard::Guard;
 use crate::line::{count, fill, stands};
 use cells::Full;
+use std::error::Error;
 use std::fmt;
 
-// A row was read, or no byte is left. An answer is an enum, as those of a source and of a step.
+// A row was read, or no byte is left. An answer is an enum, as those of a source and of a step are; `Ok(Some(()))` would say less.
 #[derive(Clone, Copy, PartialEq, Eq)]
 pub enum Answer {
     Row,
@@ -16,7 +17,7 @@ pub enum Answer {
 }
 
 // The line has not as many cells as the row, or it has, and one of them is malformed.
-#[derive(Clone, Copy, PartialEq, Eq)]
+#[derive(Clone, Copy, Debug, PartialEq, Eq)]
 pub enum LineRefusal {
     Miscounted = 17,
     Malformed = 18,
@@ -41,6 +42,8 @@ impl fmt::Display for LineRefusal {
         }
     }
 }
+
+impl Error for LineRefusal {}
 
 // Text and cursor stay two parameters here and above: a struct of both would need a clause in each contract that the text stays, and the guard holds the cursor alone.
 

@@ -1,14 +1,11 @@
 -- What holds of each element of a list holds of each of a part of it, and of lists put together. Assumes nothing.
-use Rattle.std.proofs.Common.{ℕ, zero, suc, Bool, true, false, cond, List, [], ◌∷◌, ◌++◌, map, filter, take, drop}
+use Rattle.std.proofs.Common.{ℕ, zero, suc, Bool, true, false, cond, List, [], ◌∷◌, ◌++◌, filter, take, drop}
 use Rattle.std.specs.List.{AllByRecursion}
 
 module _ {X : Type 0} (P : X → Type 0) where
   pub each_append : (xs ys : List X) → AllByRecursion P xs → AllByRecursion P ys → AllByRecursion P (xs ++ ys)
   each_append [] ys h k = k
   each_append (x ∷ xs) ys h k = (h.0, each_append xs ys h.1 k)
-
-  pub each_push : (xs : List X) (x : X) → AllByRecursion P xs → P x → AllByRecursion P (xs ++ x ∷ [])
-  each_push xs x h k = each_append xs (x ∷ []) h (k, tt)
 
   pub each_take : (n : ℕ) (xs : List X) → AllByRecursion P xs → AllByRecursion P (take n xs)
   each_take zero xs h = tt
@@ -19,10 +16,6 @@ module _ {X : Type 0} (P : X → Type 0) where
   each_drop zero xs h = h
   each_drop (suc n) [] h = tt
   each_drop (suc n) (x ∷ xs) h = each_drop n xs h.1
-
-  pub each_map : {Y : Type 0} (f : Y → X) (ys : List Y) → AllByRecursion (λ y. P (f y)) ys → AllByRecursion P (map f ys)
-  each_map f [] h = tt
-  each_map f (y ∷ ys) h = (h.0, each_map f ys h.1)
 
   pub each_weaker : (Q : X → Type 0) → ((x : X) → P x → Q x) → (xs : List X) → AllByRecursion P xs → AllByRecursion Q xs
   each_weaker Q f [] h = tt

@@ -2,7 +2,7 @@
 use Rattle.std.specs.Prelude.{ℕ, zero, suc, ◌+◌, ◌*◌, ◌%◌, Bool, ◌&&◌, List, [], ◌∷◌, ◌++◌, length, take, drop, ◌==◌}
 use Rattle.std.specs.List.{flat_map}
 use Rattle.memory.specs.Columns.{are_columns}
-use Rattle.memory.specs.declared.rows.Rows.{Rows}
+use Rattle.memory.specs.declared.rows.MemoryRows.{MemoryRows}
 use Rattle.memory.specs.declared.rows.RowsRefusal.{RowsRefusal}
 use Rattle.memory.specs.declared.rows.RowsRefusal.TheVariants.{NotWholeRows}
 
@@ -24,7 +24,7 @@ abbrev pub put_row : {C : Type 0} → List C → ℕ → List C → List C
 put_row cells at row = take at cells ++ (row ++ drop (at + length row) cells)
 
 -- the rows that lie in a piece of lent memory
-abbrev pub rows_in : {C : Type 0} → Rows C → List (List C)
+abbrev pub rows_in : {C State : Type 0} → MemoryRows C State → List (List C)
 rows_in t = rows_from t.count t.columns t.cells.now
 
 -- 1 to 16 columns, and the memory holds whole rows

@@ -10,7 +10,7 @@ pub struct ColumnCount {
 }
 
 impl ColumnCount {
-    // So many columns, if they are 1 to 16.
+    // So many columns, if they are 1 to 16. An Option: each maker has a refusal of its own where there is none.
     pub fn new(count: usize) -> Option<ColumnCount>
         ensures { MatchOption result (are_columns count ≡ false) (λ c. (are_columns count ≡ true) × (c.count ≡ count)) }
     {

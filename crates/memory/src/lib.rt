@@ -14,5 +14,5 @@ pub use marks::{clear_marks, is_marked, mark};
 pub use output::{OutputParts, put_output};
 pub use page::{NoRoom, has_room, put_row};
 pub use row::{cell_at, row_at};
-pub use rows::{Rows, RowsRefusal};
+pub use rows::{Lent, LentRows, MemoryRows, Rows, RowsRefusal, Whole};
 pub use waiting::WaitingRows;

@@ -31,7 +31,7 @@ pub enum Answer {
     Done,
 }
 
-#[derive(Clone, Copy, PartialEq, Eq)]
+#[derive(Clone, Copy, Debug, PartialEq, Eq)]
 pub enum StepRefusal {
     NoSuchProbe = 10,
     LeftTooShort = 11,

@@ -1,5 +1,5 @@
 -- Orders: why one is refused, and what is known of the plan of one that is not (docs/RULES.md, "Opening a join").
-use Rattle.std.specs.Prelude.{◌≡◌, ℕ, ◌<◌, ◌≤◌, Bool, true, not, ◌&&◌, List, [], ◌∷◌, ◌++◌, Option, nat_le}
+use Rattle.std.specs.Prelude.{◌≡◌, ℕ, ◌<◌, ◌≤◌, Bool, true, not, List, [], ◌∷◌, ◌++◌, Option}
 use Rattle.std.specs.List.{AllByRecursion}
 use Rattle.join_types.specs.declared.column.ColumnIndex.{ColumnIndex}
 use Rattle.join_types.specs.declared.column.JoinSide.TheVariants.{Left, Right}
@@ -9,11 +9,8 @@ use Rattle.opening.specs.declared.plan.Plan.{Plan}
 use Rattle.opening.specs.declared.refusal.OpenRefusal.{OpenRefusal}
 use Rattle.opening.specs.declared.refusal.OpenRefusal.TheVariants.{Probes, BatchSize, RightColumns}
 use Rattle.opening.specs.Lists.{columns_of, list_conditions, is_legal}
+use Rattle.memory.specs.Columns.{up_to}
 use Rattle.memory.specs.Conditions.{first_of}
-
--- is a number one of 1 to most
-abbrev pub up_to : ℕ → ℕ → Bool
-up_to most n = nat_le 1 n && nat_le n most
 
 -- what may be said against the numbers of an order, the smallest number first: probes, batch size, right columns
 abbrev pub number_conditions : ℕ → ℕ → ℕ → List (Bool × OpenRefusal)

@@ -9,7 +9,7 @@ use join_types::{ColumnIndex, JoinType};
 use memory::ColumnCount;
 use tables::Sealed;
 
-// The right column count stands in the list, which is plain data, so its limits are facts here and no ColumnCount.
+// The right column count stands in the list, which by the project's rules is plain data without invariants: its limits are facts here.
 #[derive(Drop)]
 pub struct Order {
     table: Sealed,

@@ -7,7 +7,7 @@ use Rattle.memory.specs.Output.{output_cell}
 use Rattle.memory.specs.Rows.{row_at, rows_in}
 use Rattle.nested_loop.specs.Model.{Setup, Rest, kept, left_rest_of, right_rest_of}
 use Rattle.nested_loop.specs.Loop.{rest, left_row, right_row, mark_cell}
-use Rattle.memory.specs.declared.rows.Rows.{Rows}
+use Rattle.memory.specs.declared.rows.MemoryRows.{MemoryRows}
 use Rattle.probing.specs.Lent.{stretch, Waiting, waiting_rows, appended, HasRoom}
 use Rattle.probing.specs.Met.{width}
 use Rattle.probing.specs.Rests.{rest_appended}
@@ -15,7 +15,7 @@ use Rattle.probing.proofs.Appending.{room_less, appended_rows, appended-room, ap
 use Rattle.probing.proofs.Turns.{stretch-more, length-rows_in, rows_in_at}
 
 -- a turn of the loop: what is left then gives the same as before
-pub rest_turn : {C : Type 0} (wide : ℕ) (k : Rest) (f : List C → Bool → List C) (t : Rows C) (ws : List ℕ) (i to : ℕ) (x : List C) (b : Bool) (w w' : Waiting C) → i < min to t.count → x ≡ row_at t.columns t.cells.now i → b ≡ bit ws i → w' ≡ cond (kept k b) (appended wide (f x b) w) w → rest_appended wide k f (stretch (i + 1) to (rows_in t)) (stretch (i + 1) to (bits_of t.count ws)) w' ≡ rest_appended wide k f (stretch i to (rows_in t)) (stretch i to (bits_of t.count ws)) w
+pub rest_turn : {C State : Type 0} (wide : ℕ) (k : Rest) (f : List C → Bool → List C) (t : MemoryRows C State) (ws : List ℕ) (i to : ℕ) (x : List C) (b : Bool) (w w' : Waiting C) → i < min to t.count → x ≡ row_at t.columns t.cells.now i → b ≡ bit ws i → w' ≡ cond (kept k b) (appended wide (f x b) w) w → rest_appended wide k f (stretch (i + 1) to (rows_in t)) (stretch (i + 1) to (bits_of t.count ws)) w' ≡ rest_appended wide k f (stretch i to (rows_in t)) (stretch i to (bits_of t.count ws)) w
 rest_turn {C} wide k f t ws i to x b w w' h ex eb e =
     let bs : List Bool = bits_of t.count ws in
     let lt : i < length (rows_in t) = omega (arith, length-rows_in t) in

@@ -7,7 +7,7 @@ use Rattle.memory.proofs.Cuts.{get_or-rows_from, length-rows_from}
 use Rattle.memory.specs.Marks.{marked}
 use Rattle.nested_loop.specs.Model.{Setup, has_pairs}
 use Rattle.nested_loop.specs.Loop.{is_pair, output_row}
-use Rattle.memory.specs.declared.rows.Rows.{Rows}
+use Rattle.memory.specs.declared.rows.MemoryRows.{MemoryRows}
 use Rattle.probing.specs.Lent.{stretch, Waiting, appended}
 use Rattle.probing.specs.declared.pairs.PairMarks.{PairMarks}
 use Rattle.probing.specs.Met.{Met, width, met_pair, met_row, met_range, SameWords}
@@ -28,7 +28,7 @@ stretch-none {X} xs i to h =
 abbrev met_by : {C : Type 0} → List ℕ → List ℕ → Waiting C → Met C
 met_by lefts rights waits = record { lefts = lefts; rights = rights; waits = waits }
 
-module _ {C : Type 0} (t : Rows C) where
+module _ {C State : Type 0} (t : MemoryRows C State) where
   pub length-rows_in : length (rows_in t) ≡ t.count
   length-rows_in = length-rows_from t.count t.columns t.cells.now
 

@@ -9,7 +9,7 @@ ghost use Rattle.probing.specs.Met.{width, PairsBy, met_in, met_row, met_range, 
 
 use crate::JoinOutput;
 use cells::Cell;
-use memory::{OutputParts, Rows, WaitingRows, mark};
+use memory::{LentRows, OutputParts, WaitingRows, mark};
 use std::ops::Range;
 use verdicts::Verdict;
 
@@ -57,7 +57,7 @@ impl<V: Verdict> Pairing<'_, V> {
         &self,
         i: usize,
         left: &[V::Cell],
-        right: &Rows<V::Cell>,
+        right: &LentRows<V::Cell>,
         marks: &mut PairMarks,
         waiting: &mut WaitingRows<V::Cell>,
     )
@@ -79,9 +79,9 @@ impl<V: Verdict> Pairing<'_, V> {
     // The left rows from one place to another meet the rows of the batch: each left row in order, with each right row in order.
     pub fn process_left_range_join(
         &self,
-        left: &Rows<V::Cell>,
+        left: &LentRows<V::Cell>,
         range: Range<usize>,
-        right: &Rows<V::Cell>,
+        right: &LentRows<V::Cell>,
         marks: &mut PairMarks,
         waiting: &mut WaitingRows<V::Cell>,
     )

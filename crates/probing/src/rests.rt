@@ -11,7 +11,7 @@ ghost use Rattle.probing.specs.Rests.{RestsBy, side_rest, side_row, rest_appende
 use crate::JoinOutput;
 use cells::Cell;
 use join_types::{JoinSide, Rest};
-use memory::{OutputParts, Rows, WaitingRows, is_marked};
+use memory::{LentRows, OutputParts, WaitingRows, is_marked};
 use std::ops::Range;
 
 // Whether a rest has a row, given whether the row is marked.
@@ -78,7 +78,7 @@ impl JoinOutput<'_> {
     fn append_rest<C: Cell>(
         &self,
         side: JoinSide,
-        rows: &Rows<C>,
+        rows: &LentRows<C>,
         range: Range<usize>,
         marks: &[u64],
         waiting: &mut WaitingRows<C>,
@@ -92,10 +92,10 @@ impl JoinOutput<'_> {
         }
     }
 
-    // Appends the left rest of the left rows from one place to another.
+    // Appends the left rest of the left rows from one place to another. This and the next are two functions of the Rust; both are append_rest.
     pub fn process_left_unmatched_range<C: Cell>(
         &self,
-        left: &Rows<C>,
+        left: &LentRows<C>,
         range: Range<usize>,
         left_marks: &[u64],
         waiting: &mut WaitingRows<C>,
@@ -111,7 +111,7 @@ impl JoinOutput<'_> {
     // Appends the right rest of a right batch.
     pub fn process_right_unmatched<C: Cell>(
         &self,
-        right: &Rows<C>,
+        right: &LentRows<C>,
         right_marks: &[u64],
         waiting: &mut WaitingRows<C>,
     )

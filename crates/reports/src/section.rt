@@ -1,6 +1,6 @@
 // The parts of a report: songs that were read, lines that were passed by, and lists of clashes.
-ghost use Rattle.std.specs.Prelude.{◌≡◌, ◌++◌, Some, length, codes, decimal, vec_items};
-ghost use Rattle.reports.specs.Texts.{clash_line, clash_lines, refused_line, passed_lines, songs_text};
+ghost use Rattle.std.specs.Prelude.{◌++◌, Some, length, codes, decimal, vec_items};
+ghost use Rattle.reports.specs.Texts.{clash_line, clash_lines, refused_line, songs_text};
 
 use clashes::{ClashLists, Pair};
 use lines::{Line, LineRefusal};

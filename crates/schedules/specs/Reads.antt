@@ -7,7 +7,7 @@ use Rattle.schedules.specs.declared.songs.SongError.{SongError}
 use Rattle.schedules.specs.declared.songs.SongError.TheVariants.{NoNames, TooManyRows, NoMemory}
 use Rattle.schedules.specs.Blocks.{names, good_rows, passed_lines}
 
--- the cells of rows, one row behind the other
+-- the cells of rows, one row behind the other, as `memory` has it, on which songs do not stand
 abbrev pub cells_of : List (List Full) → List Full
 cells_of rows = flat_map (λ r. r) rows
 

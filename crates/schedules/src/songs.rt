@@ -32,7 +32,7 @@ pub enum SongError {
 }
 
 impl SongError {
-    // The number of the refusal, where it has one.
+    // The number of the refusal. An Option, since there is none for memory that runs out or a missing names line.
     pub fn number(self) -> Option<u8>
         ensures { result ≡ number_of self }
     {

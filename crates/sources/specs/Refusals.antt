@@ -1,5 +1,6 @@
 -- Refusals: when, and by which number.
-use Rattle.std.specs.Prelude.{◌≡◌, ℕ, Bool, true, false, ◌&&◌, nat_le}
+use Rattle.std.specs.Prelude.{◌≡◌, ℕ, Bool, true, false}
+use Rattle.memory.specs.Columns.{up_to}
 use Rattle.memory.specs.Rows.{are_rows}
 use Rattle.sources.specs.declared.answer.SourceRefusal.{SourceRefusal}
 use Rattle.sources.specs.declared.answer.SourceRefusal.TheVariants.{PageTooShort}
@@ -17,7 +18,7 @@ table_number NotWholeRows = 16
 
 -- a batch has 1 to 1,024 rows
 abbrev pub is_batch : ℕ → Bool
-is_batch n = nat_le 1 n && nat_le n 1024
+is_batch n = up_to 1024 n
 
 -- why so many cells, columns and rows to a batch make no table source; the smaller number first
 abbrev pub Refuses : (cells columns batch : ℕ) → ShapeRefusal → Type 0

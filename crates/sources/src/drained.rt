@@ -23,7 +23,7 @@ pub enum DrainError {
 }
 
 impl DrainError {
-    // The number of the refusal, where it has one.
+    // The number of the refusal. An Option, since memory that runs out has none.
     pub fn number(self) -> Option<u8>
         ensures { result ≡ drain_number self }
     {

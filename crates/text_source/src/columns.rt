@@ -5,7 +5,7 @@ ghost use Rattle.text_source.specs.Refusals.{number_of};
 
 use memory::ColumnCount;
 
-#[derive(Clone, Copy, PartialEq, Eq)]
+#[derive(Clone, Copy, Debug, PartialEq, Eq)]
 pub enum TextRefusal {
     Columns = 16,
 }

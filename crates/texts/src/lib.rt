@@ -1,7 +1,7 @@
 // A text line by line: each line is a row, or is refused and passed by (docs/RULES.md, "Lines of text").
 #![tactic(auto)]
 
-ghost use Rattle.std.specs.Prelude.{◌≡◌, ◌<◌, ◌≤◌, length};
+ghost use Rattle.std.specs.Prelude.{◌<◌, length};
 ghost use Rattle.texts.specs.Items.{Next};
 
 use cells::Full;
