@@ -12,6 +12,7 @@ block_text block place song.NoNames = block ++ (codes " has " ++ (error_text son
 block_text block place song.TooManyRows = block ++ (codes " is refused with 3: it has " ++ error_text song.TooManyRows)
 block_text block place song.NoMemory = error_text song.NoMemory
 
+-- what is said of the whole input: the block that is at fault, by its name and where it begins
 abbrev pub input_text : InputError → List ℕ
 input_text (Schedule e) = block_text (codes "the schedule") (codes "on line 1") e
 input_text (Log e) = block_text (codes "the log") (codes "behind the first empty line") e

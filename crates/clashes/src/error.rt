@@ -26,6 +26,7 @@ impl fmt::Display for InputError {
         };
         match error {
             SongError::NoNames => write!(f, "{block} has {error} {place}"),
+            // The 3 stands in the words: a match on the error and its number was tried, and its proof stayed open.
             SongError::TooManyRows => write!(f, "{block} is refused with 3: it has {error}"),
             SongError::NoMemory => f.write(error),
         }

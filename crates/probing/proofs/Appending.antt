@@ -4,7 +4,7 @@ use Rattle.std.proofs.lemmas.Bool.{cond-true, le-leb}
 use Rattle.memory.specs.Rows.{put_row}
 use Rattle.memory.proofs.Pages.{rows_put, length-put_row}
 use Rattle.nested_loop.specs.Model.{counted}
-use Rattle.probing.specs.Lent.{Waiting, waiting_of, waiting_rows, appended, HasRoom}
+use Rattle.probing.specs.Waiting.{Waiting, waiting_of, waiting_rows, appended, HasRoom}
 
 module _ {C : Type 0} (width : ℕ) where
   -- room for more rows is room for fewer

@@ -8,7 +8,7 @@ use Rattle.memory.specs.Rows.{row_at, rows_in}
 use Rattle.nested_loop.specs.Model.{Setup, Rest, kept, left_rest_of, right_rest_of}
 use Rattle.nested_loop.specs.Loop.{rest, left_row, right_row, mark_cell}
 use Rattle.memory.specs.declared.rows.MemoryRows.{MemoryRows}
-use Rattle.probing.specs.Lent.{stretch, Waiting, waiting_rows, appended, HasRoom}
+use Rattle.probing.specs.Waiting.{stretch, Waiting, waiting_rows, appended, HasRoom}
 use Rattle.probing.specs.Met.{width}
 use Rattle.probing.specs.Rests.{rest_appended}
 use Rattle.probing.proofs.Appending.{room_less, appended_rows, appended-room, appended_few}

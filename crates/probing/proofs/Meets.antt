@@ -9,7 +9,7 @@ use Rattle.nested_loop.specs.Model.{Setup, has_pairs}
 use Rattle.nested_loop.specs.Loop.{is_pair, output_row, pair_of, pairs, left_matched, right_matched}
 use Rattle.nested_loop.specs.Machine.{or_marks, from_row}
 use Rattle.nested_loop.proofs.Marks.{also_none, also_maps, also_clear}
-use Rattle.probing.specs.Lent.{stretch, waiting_rows, appended}
+use Rattle.probing.specs.Waiting.{stretch, waiting_rows, appended}
 use Rattle.probing.specs.Met.{Met, width, met_pair, met_row, met_range, MetRoom, MetRows}
 use Rattle.probing.proofs.Appending.{room_less, appended_rows, appended-room, appended_few}
 

@@ -8,7 +8,7 @@ use Rattle.memory.specs.Marks.{marked}
 use Rattle.nested_loop.specs.Model.{Setup, has_pairs}
 use Rattle.nested_loop.specs.Loop.{is_pair, output_row}
 use Rattle.memory.specs.declared.rows.MemoryRows.{MemoryRows}
-use Rattle.probing.specs.Lent.{stretch, Waiting, appended}
+use Rattle.probing.specs.Waiting.{stretch, Waiting, appended}
 use Rattle.probing.specs.declared.pairs.PairMarks.{PairMarks}
 use Rattle.probing.specs.Met.{Met, width, met_pair, met_row, met_range, SameWords}
 

@@ -1,3 +1,3 @@
-pub mod Lent
+pub mod Waiting
 pub mod Met
 pub mod Rests

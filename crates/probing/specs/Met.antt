@@ -7,7 +7,7 @@ use Rattle.nested_loop.specs.Loop.{is_pair, output_row, left_matched, right_matc
 use Rattle.nested_loop.specs.Machine.{or_marks, from_row}
 use Rattle.probing.specs.declared.output.JoinOutput.{JoinOutput}
 use Rattle.probing.specs.declared.pairs.PairMarks.{PairMarks}
-use Rattle.probing.specs.Lent.{Waiting, waiting_of, waits_in, waiting_rows, appended, HasRoom}
+use Rattle.probing.specs.Waiting.{Waiting, waiting_of, waits_in, waiting_rows, appended, HasRoom}
 
 -- the words of the left marks and of the right marks, and the waiting rows
 pub record Met (C : Type 0) : Type 0 where

@@ -6,7 +6,7 @@ use Rattle.join_types.specs.declared.kind.JoinType.{JoinType}
 use Rattle.nested_loop.specs.Model.{Setup, Rest, nothing, kept, left_rest_of, right_rest_of}
 use Rattle.nested_loop.specs.Loop.{output_row, left_row, right_row}
 use Rattle.probing.specs.declared.output.JoinOutput.{JoinOutput}
-use Rattle.probing.specs.Lent.{Waiting, appended}
+use Rattle.probing.specs.Waiting.{Waiting, appended}
 
 -- a setup with the cells, the join type and the output list of a call; its other parts may be any
 pub record RestsBy {C : Type 0} (S : Setup C) (none aye nay : C) (o : JoinOutput) : Type 0 where

@@ -4,7 +4,7 @@ ghost use Rattle.memory.specs.Marks.{marked};
 ghost use Rattle.memory.specs.Rows.{rows_in};
 ghost use Rattle.nested_loop.specs.Model.{Setup, has_pairs};
 ghost use Rattle.nested_loop.specs.Loop.{output_row};
-ghost use Rattle.probing.specs.Lent.{stretch, waits_in, appended};
+ghost use Rattle.probing.specs.Waiting.{stretch, waits_in, appended};
 ghost use Rattle.probing.specs.Met.{width, PairsBy, met_in, met_row, met_range, MetRoom, MetRows, SameWords};
 
 use crate::JoinOutput;

@@ -4,7 +4,7 @@ ghost use Rattle.memory.specs.Marks.{bits_of};
 ghost use Rattle.memory.specs.Rows.{rows_in};
 ghost use Rattle.nested_loop.specs.Model.{Setup, kept, left_rest_of, right_rest_of};
 ghost use Rattle.nested_loop.specs.Loop.{mark_cell, left_row, right_row, left_rest, right_rest};
-ghost use Rattle.probing.specs.Lent.{stretch, waits_in, waiting_rows, appended, HasRoom};
+ghost use Rattle.probing.specs.Waiting.{stretch, waits_in, waiting_rows, appended, HasRoom};
 ghost use Rattle.probing.specs.Met.{width};
 ghost use Rattle.probing.specs.Rests.{RestsBy, side_rest, side_row, rest_appended};
 

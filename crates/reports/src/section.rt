@@ -1,4 +1,4 @@
-// The parts of a report: songs that were read, lines that were passed by, and lists of clashes.
+// What is printed of songs that were read, of a line that was passed by, and of a list of clashes.
 ghost use Rattle.std.specs.Prelude.{◌++◌, Some, length, codes, decimal, vec_items};
 ghost use Rattle.reports.specs.Texts.{clash_line, clash_lines, refused_line, songs_text};
 

@@ -3,7 +3,7 @@ use Rattle.memory.specs.Rows.{rows_from}
 use Rattle.memory.proofs.Cuts.{length-rows_from}
 use Rattle.nested_loop.specs.Machine.{rows_met}
 use Rattle.nested_loop.specs.declared.answer.NLJState.{NLJState}
-use Rattle.probing.specs.Lent.{stretch}
+use Rattle.probing.specs.Waiting.{stretch}
 use Rattle.join.specs.View.{setup_in}
 use Rattle.join.specs.Sound.{Placed, room_of}
 use Rattle.join.proofs.Quiet.{room_in, rows_first}

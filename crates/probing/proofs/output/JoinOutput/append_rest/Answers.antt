@@ -1,7 +1,7 @@
 use Rattle.std.proofs.Common.{◌≤◌, min, length, sym, ap, ◌∙◌, arith}
 use Rattle.memory.specs.Marks.{bits_of}
 use Rattle.memory.specs.Rows.{rows_in}
-use Rattle.probing.specs.Lent.{stretch, waits_in}
+use Rattle.probing.specs.Waiting.{stretch, waits_in}
 use Rattle.probing.specs.Met.{width}
 use Rattle.probing.specs.Rests.{side_rest, side_row, rest_appended}
 use Rattle.probing.proofs.Turns.{stretch-none, length-rows_in}

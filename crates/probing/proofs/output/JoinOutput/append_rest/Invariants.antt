@@ -2,7 +2,7 @@ use Rattle.std.proofs.Common.{◌≡◌}
 use Rattle.memory.specs.Marks.{bits_of}
 use Rattle.memory.specs.Rows.{rows_in}
 use Rattle.nested_loop.specs.Model.{Setup}
-use Rattle.probing.specs.Lent.{stretch, waits_in}
+use Rattle.probing.specs.Waiting.{stretch, waits_in}
 use Rattle.probing.specs.Met.{width}
 use Rattle.probing.specs.Rests.{RestsBy, side_rest, side_row, rest_appended}
 use Rattle.probing.proofs.output.JoinOutput.append_rest.Given as goal

@@ -4,7 +4,7 @@ use Rattle.memory.specs.Marks.{bits_of}
 use Rattle.memory.specs.Rows.{rows_in}
 use Rattle.nested_loop.specs.Model.{left_rest_of}
 use Rattle.nested_loop.specs.Loop.{left_row}
-use Rattle.probing.specs.Lent.{stretch, waits_in}
+use Rattle.probing.specs.Waiting.{stretch, waits_in}
 use Rattle.probing.specs.Met.{width}
 use Rattle.probing.proofs.Parts.{setup_by, rests_by}
 use Rattle.probing.proofs.Keeping.{left_wide, stretch_rows, stretch_few}

@@ -6,7 +6,7 @@ use Rattle.memory.specs.Marks.{bit, bits_of}
 use Rattle.memory.specs.Rows.{rows_in}
 use Rattle.nested_loop.specs.Model.{Setup, right_rest_of}
 use Rattle.nested_loop.specs.Loop.{right_row}
-use Rattle.probing.specs.Lent.{waits_in}
+use Rattle.probing.specs.Waiting.{waits_in}
 use Rattle.probing.specs.Met.{width}
 use Rattle.probing.specs.Rests.{RestsBy, rest_appended}
 use Rattle.probing.proofs.Parts.{setup_by, rests_by}

@@ -1,7 +1,7 @@
 use Rattle.std.proofs.Common.{◌≡◌, ◌≤◌, min, length, sym, ap, ◌∙◌, arith}
 use Rattle.memory.specs.Rows.{rows_in}
 use Rattle.nested_loop.specs.Model.{Setup}
-use Rattle.probing.specs.Lent.{stretch}
+use Rattle.probing.specs.Waiting.{stretch}
 use Rattle.probing.specs.Met.{PairsBy, met_in, met_range}
 use Rattle.probing.proofs.Parts.{setup_by, pairs_by}
 use Rattle.probing.proofs.Turns.{range_turn, stretch-none, length-rows_in, still_same}

@@ -1,7 +1,7 @@
 use Rattle.std.proofs.Common.{◌≡◌}
 use Rattle.memory.specs.Rows.{rows_in}
 use Rattle.nested_loop.specs.Model.{Setup}
-use Rattle.probing.specs.Lent.{stretch}
+use Rattle.probing.specs.Waiting.{stretch}
 use Rattle.probing.specs.Met.{PairsBy, met_in, met_range, SameWords}
 use Rattle.probing.proofs.pairs.Pairing.process_left_range_join.Given as goal
 
