@@ -82,6 +82,20 @@ impl<'a, C, State> MemoryRows<'a, C, State> {
         self.count
     }
 
+    // How many cells a row has.
+    pub fn columns(&self) -> usize
+        ensures { result ≡ self.now.columns }
+    {
+        self.columns
+    }
+
+    // The memory that the rows lie in.
+    pub fn cells(&self) -> &'a [C]
+        ensures { result.now ≡ self.now.cells.now }
+    {
+        self.cells
+    }
+
     // Row i of the memory, with the cells that are there.
     pub fn row(&self, i: usize) -> &'a [C]
         ensures { result.now ≡ row_at self.now.columns self.now.cells.now i }
