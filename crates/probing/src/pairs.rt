@@ -2,7 +2,7 @@
 ghost use Rattle.std.specs.Prelude.{◌≡◌, ◌+◌, ◌-◌, ◌*◌, ◌≤◌, if◌then◌else◌};
 ghost use Rattle.memory.specs.Marks.{marked};
 ghost use Rattle.memory.specs.Rows.{rows_in};
-ghost use Rattle.nested_loop.specs.Model.{Setup, has_pairs};
+ghost use Rattle.nested_loop.specs.Model.{Setup, has_pairs, is_true};
 ghost use Rattle.nested_loop.specs.Loop.{output_row};
 ghost use Rattle.probing.specs.Waiting.{stretch, waits_in, appended};
 ghost use Rattle.probing.specs.Met.{width, PairsBy, met_in, met_row, met_range, MetRoom, MetRows, SameWords};
@@ -41,6 +41,13 @@ pub struct Pairing<'a, V> {
 }
 
 impl<V: Verdict> Pairing<'_, V> {
+    // Whether a left and a right row are a pair: the verdict is true.
+    fn is_pair(&self, left: &[V::Cell], right: &[V::Cell]) -> bool
+        ensures { result ≡ is_true (V.Verdict.says self.now.verdict.now left.now right.now) }
+    {
+        self.verdict.ask(left, right).is_true()
+    }
+
     // Writes the output row of a pair behind the waiting rows, if the type has pairs and it fits.
     fn append_pair(&self, left: &[V::Cell], right: &[V::Cell], waiting: &mut WaitingRows<V::Cell>)
         ensures page { waiting.new.cells.ghost_name ≡ waiting.old.cells.ghost_name }
@@ -68,7 +75,7 @@ impl<V: Verdict> Pairing<'_, V> {
         // By number, since the marks go by it.
         for j in 0..right.count() {
             let row = right.row(j);
-            let is_pair = self.verdict.ask(left, row).is_true();
+            let is_pair = self.is_pair(left, row);
             if is_pair {
                 marks.mark(i, j);
                 self.append_pair(left, row, waiting);

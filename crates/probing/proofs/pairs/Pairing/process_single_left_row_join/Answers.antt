@@ -16,8 +16,8 @@ loop-j-preserved g c =
     let j = c.loop-j.j in
     let before = met_in c.loop-j.marks c.loop-j.waiting in
     let says = g.V.Verdict.says a.self.now.verdict.now in
-    let asked : (S : Setup (g.row.V-Cell).Denot) → S.verdict ≡ says → is_pair S l r ≡ c.is_true-is_pair.result =
-    λ S e. ap (λ v. is_true (v l r)) e ∙ sym (c.is_true-is_pair.ensures ∙ ap is_true c.ask.ensures) in
+    let asked : (S : Setup (g.row.V-Cell).Denot) → S.verdict ≡ says → is_pair S l r ≡ c.is_pair-is_pair.result =
+    λ S e. ap (λ v. is_true (v l r)) e ∙ sym c.is_pair-is_pair.ensures in
     elim c.if-is_pair.branch [
       | then-is_pair w ↦ record {
         words = still_same c.loop-j.invariant.words
