@@ -53,14 +53,15 @@ impl JoinOutput<'_> {
     fn append_row<C: Cell>(
         &self,
         side: JoinSide,
+        rest: Rest,
         row: &[C],
         marked: bool,
         waiting: &mut WaitingRows<C>,
     )
+        requires { rest ≡ side_rest self.now.join_type side }
         ensures page { waiting.new.cells.ghost_name ≡ waiting.old.cells.ghost_name }
         ensures appended { (S : Setup C) → RestsBy S C.Cell.missing C.Cell.yes C.Cell.no self.now → waits_in waiting.new ≡ (if kept (side_rest S.join_type side) marked then appended (width S) (side_row S side row.now marked) (waits_in waiting.old) else waits_in waiting.old) }
     {
-        let rest = self.rest(side);
         if !keeps(rest, marked) {
             return;
         }
@@ -86,9 +87,10 @@ impl JoinOutput<'_> {
         ensures page { waiting.new.cells.ghost_name ≡ waiting.old.cells.ghost_name }
         ensures appended { (S : Setup C) → RestsBy S C.Cell.missing C.Cell.yes C.Cell.no self.now → waits_in waiting.new ≡ rest_appended (width S) (side_rest S.join_type side) (side_row S side) (stretch range.start range.end (rows_in rows.now)) (stretch range.start range.end (bits_of rows.now.count marks.now)) (waits_in waiting.old) }
     {
+        let rest = self.rest(side);
         // By number, since the marks go by it.
         for i in range.start..range.end.min(rows.count()) {
-            self.append_row(side, rows.row(i), is_marked(marks, i), waiting);
+            self.append_row(side, rest, rows.row(i), is_marked(marks, i), waiting);
         }
     }
 
