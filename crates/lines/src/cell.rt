@@ -43,6 +43,8 @@ fn number(text: &[u8]) -> Option<i64>
 }
 
 // The cell that a text stands for: its first character decides of which kind.
+// Inlined, since a line is judged and its row filled by two such calls for each cell.
+#[inline(always)]
 #[tactic(auto, using(crate::proofs::Texts::first_bytes))]
 pub fn read_cell(text: &[u8]) -> Option<Full>
     ensures { MatchOption result ((c : Cell) → Writes c text.now → ⊥) (λ c. Writes c text.now) }
