@@ -13,7 +13,7 @@ fn is_comma(b: &u8) -> bool
 }
 
 // How many cells a line has.
-// A sum of ones, since the compiler makes it several bytes a step; `filter` or `split` with `count` it does not.
+// A sum of ones: the compiler adds up several bytes at a time, which it does not do for `filter` or `split` with `count`.
 pub(crate) fn count(line: &[u8]) -> usize
     ensures { result ≡ commas line.now + 1 }
 {

@@ -50,6 +50,7 @@ impl JoinOutput<'_> {
     }
 
     // Writes a row of a side behind the waiting rows, if the side's rest has it and it fits. The other side has no cells.
+    // The rest is handed in, since the caller looks it up once for all rows.
     fn append_row<C: Cell>(
         &self,
         side: JoinSide,
